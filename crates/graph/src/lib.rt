@@ -1,0 +1,6 @@
+// Drinkers and the bottles that they share, two by two.
+pub mod ends;
+pub mod graph;
+
+pub use ends::Ends;
+pub use graph::Graph;
