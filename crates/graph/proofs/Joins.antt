@@ -1,18 +1,19 @@
--- One bottle more: the list of ends keeps its rules, and the set of a drinker's bottles grows with it.
+-- One bottle more: the list of ends keeps its rules, and so do the set of a drinker's bottles and the table of neighbours.
 use mathlib.Core.Path.{_≡_, refl, sym, ap, _∙_, subst}
-use mathlib.Core.Bool.{Bool, true, false, _&&_, _||_}
+use mathlib.Core.Bool.{Bool, true, false, cond, _&&_, _||_}
 use mathlib.Core.List.{List, [], _∷_, _++_}
 use mathlib.Core.Logic.{_⊎_, ⊎-elim}
 use Prim.Native.Nat.{ℕ, _+_, _<_, _≤_}
 use native.Mathlib.Omega.{arith}
 use lib.Dec.{eqb, ltb}
-use lib.ListN.{length, getD}
-use Rattle.std.proofs.shelf.Lists.{getD-push, getD-append-left, length-push}
+use lib.ListN.{length, getD, take}
+use Rattle.std.proofs.shelf.Lists.{take-more, getD-push, getD-append-left, length-push}
 use Rattle.std.proofs.shelf.Tests.{cases-eq, cases-lt, eq-eqb, both-ways}
 use Rattle.std.proofs.shelf.Ways.{tells}
 use Rattle.graph.specs.declared.ends.Ends.{Ends}
 use Rattle.graph.specs.Ends.{between, end-at, joins, touches, neighbours, is-end, Ends-ordered, Pairs-once}
-use Rattle.graph.proofs.Sharing.{neighbours-by}
+use Rattle.graph.proofs.Sharing.{neighbours-by, neighbours-push}
+use Rattle.relations.specs.Related.{is-pair}
 
 module _ (es : List Ends) (u v : ℕ) where
   old-end : (b : ℕ) → b < length es → end-at (es ++ between u v ∷ []) b ≡ end-at es b
@@ -31,10 +32,10 @@ module _ (es : List Ends) (u v : ℕ) where
   once-push h fresh a b l k e = ⊎-elim
       (λ s. let before : a < length es = omega arith in h a b l s (sym (old-end a before) ∙ e ∙ old-end b s))
       (λ s.
-          let last : length es ≡ b = omega (arith, length-push es (between u v)) in
-          let before : a < length es = omega arith in
-          let same : end-at es a ≡ between u v = sym (old-end a before) ∙ e ∙ new-end b last in
-          fresh (neighbours-by es a u v before (ap (λ x. joins x u v) same ∙ ends-join)))
+      let last : length es ≡ b = omega (arith, length-push es (between u v)) in
+      let before : a < length es = omega arith in
+      let same : end-at es a ≡ between u v = sym (old-end a before) ∙ e ∙ new-end b last in
+      fresh (neighbours-by es a u v before (ap (λ x. joins x u v) same ∙ ends-join)))
       (cases-lt b (length es))
     where
       ends-join : joins (between u v) u v ≡ true
@@ -75,3 +76,17 @@ shared-all es p i within l S b = S b ∙ go (touches (end-at es b) p)
   where
     go : (x : Bool) → ((ltb b (length es) && x) && ltb b i) ≡ (ltb b (length es) && x)
     go x = grind (arith, tells)
+
+-- The table of neighbours, one bottle more.
+module _ (es : List Ends) (i : ℕ) (l : i < length es) (small : (end-at es i .lower < 16) × (end-at es i .higher < 16)) where
+  pub table-more : (old middle new : ℕ → ℕ → Bool) (u v : ℕ) → u ≡ end-at es i .lower → v ≡ end-at es i .higher
+      → ((p q : ℕ) → old p q ≡ neighbours (take i es) p q)
+      → ((p q : ℕ) → middle p q ≡ cond (is-pair u v p q) true (old p q))
+      → ((p q : ℕ) → new p q ≡ cond (is-pair v u p q) true (middle p q))
+      → (p q : ℕ) → new p q ≡ neighbours (take (i + 1) es) p q
+  table-more old middle new u v eu ev h first second p q =
+      go (old p q) (middle p q) (new p q) (neighbours (take i es) p q) (h p q) (first p q) (second p q)
+      ∙ sym (ap (λ xs. neighbours xs p q) (take-more es i (between 0 0) l) ∙ neighbours-push (take i es) (end-at es i) p q)
+    where
+      go : (x y z k : Bool) → x ≡ k → y ≡ cond (is-pair u v p q) true x → z ≡ cond (is-pair v u p q) true y → z ≡ (k || joins (end-at es i) p q)
+      go x y z k a b c = let s = small .0 in let t = small .1 in grind (arith, tells)

@@ -24,7 +24,10 @@ impl Graph {
         Ok(Graph {
             drinkers,
             bottles: 0,
-            ends: [Ends { lower: 0, higher: 0 }; 32],
+            ends: [Ends {
+                lower: 0,
+                higher: 0,
+            }; 32],
         })
     }
 

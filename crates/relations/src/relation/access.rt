@@ -10,14 +10,20 @@ impl Relation {
     pub fn empty() -> Relation
         ensures { λ r. ⌜ ((p q : ℕ) → related r p q ≡ false) ⌝ }
     {
-        Relation { rows: [[false; 16]; 16] }
+        Relation {
+            rows: [[false; 16]; 16],
+        }
     }
 
     // Is p related to q? A number of 16 or more is related to none.
     pub fn contains(&self, p: usize, q: usize) -> bool
         ensures { λ r. ⌜ r ≡ related (now (self .entry)) p q ⌝ }
     {
-        if p < 16 && q < 16 { self.rows[p][q] } else { false }
+        if p < 16 && q < 16 {
+            self.rows[p][q]
+        } else {
+            false
+        }
     }
 
     // From now on p is related to q, or is not. A number of 16 or more stays unrelated.

@@ -15,20 +15,27 @@ ghost-self c =
     let v = c .args .higher in
     let old = take (g .bottles) (g .ends) in
     let place : g .bottles < length (g .ends) = omega arith in
-    let grown = sym (take-more-set (g .ends) (g .bottles) (between u v) place) in
-    (
+    let grown = sym (take-more-set (g .ends) (g .bottles) (between u v) place) in (
       length-set (g .ends) (g .bottles) (between u v) ∙ g .places,
-      (g .some, (g .few, (omega arith, (
-        subst (Ends-ordered (g .drinkers)) grown (ordered-push old u v (g .drinkers) (g .ordered) (c .if-lower-higher .left) (c .if-higher-self .left)),
-        (subst Pairs-once grown (once-push old u v (g .once) (both-ways _ (sym (c .if-neighbours .ensures tt)))), tt),
-      )))),
+      (
+        g .some,
+        (
+          g .few,
+          (
+            omega arith,
+            (
+              subst (Ends-ordered (g .drinkers)) grown (ordered-push old u v (g .drinkers) (g .ordered) (c .if-lower-higher .left) (c .if-higher-self .left)),
+              (subst Pairs-once grown (once-push old u v (g .once) (both-ways _ (sym (c .if-neighbours .ensures tt)))), tt),
+            ),
+          ),
+        ),
+      ),
     )
 
 pub returns : need.returns
 returns c =
     let g = c .args .self .now in
-    let count = length-take-le (g .bottles) (g .ends) (omega arith) in
-    (
+    let count = length-take-le (g .bottles) (g .ends) (omega arith) in (
       omega (arith, count),
       record {
         in-order = c .if-lower-higher .left;

@@ -1,0 +1,4 @@
+pub mod Dining
+pub mod Laws
+pub mod Answers
+pub mod Passing
