@@ -1,1 +1,2 @@
 pub mod DoneThenTurn
+pub mod Phases

@@ -1,4 +1,5 @@
+pub mod Answers
 pub mod Dining
 pub mod Laws
-pub mod Answers
 pub mod Passing
+pub mod Phases

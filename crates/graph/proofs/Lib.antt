@@ -1,2 +1,4 @@
-pub mod Sharing
+pub mod Counting
+pub mod Handshakes
 pub mod Joins
+pub mod Sharing

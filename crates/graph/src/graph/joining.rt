@@ -5,12 +5,10 @@ ghost use Prim.Native.Nat.{ℕ, _<_, _≤_};
 ghost use lib.ListN.{length, getD};
 ghost use Rattle.graph.specs.Ends.{neighbours, is-end};
 ghost use Rattle.graph.specs.Graphs.{ends-of, Made, Join, Ends-asked};
-ghost use Rattle.relations.specs.Related.{related};
 ghost use Rattle.sets.specs.Members.{has};
 use crate::ends::Ends;
 use crate::graph::Graph;
 use refusals::Refusal;
-use relations::Relation;
 use sets::Set;
 
 impl Graph {
@@ -110,18 +108,5 @@ impl Graph {
             }
         }
         shared
-    }
-
-    // Who is whose neighbour, as a table.
-    pub fn neighbour_table(&self) -> Relation
-        ensures { λ r. ⌜ ((p q : ℕ) → related r p q ≡ neighbours (ends-of (now (self .entry))) p q) ⌝ }
-    {
-        let mut table = Relation::empty();
-        for bottle in 0..self.bottles {
-            let ends = self.ends[bottle];
-            table.write(ends.lower, ends.higher, true);
-            table.write(ends.higher, ends.lower, true);
-        }
-        table
     }
 }

@@ -1,0 +1,5 @@
+pub mod Done
+pub mod OnePhase
+pub mod Turn
+pub mod Upstream
+pub mod Waiting

@@ -1,0 +1,5 @@
+pub mod Forks
+pub mod Upstream
+pub mod Waiting
+pub mod Orderly
+pub mod ForkDiners

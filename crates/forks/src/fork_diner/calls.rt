@@ -1,0 +1,63 @@
+// The fork diner behind the interface.
+ghost use Rattle.forks.specs.ForkDiners.{meaning, hunger-of, leave-of, turn-of};
+use crate::fork_diner::ForkDiner;
+use crate::fork_diner::feeding::feed_in_order;
+use crate::fork_diner::yielding::yield_to_all;
+use dining::Diner;
+use dining::Phase;
+use refusals::Refusal;
+
+pub impl Diner for ForkDiner as ForkDining {
+    ghost means = { meaning };
+
+    ghost hungers = { hunger-of };
+
+    ghost leaves = { leave-of };
+
+    ghost turns = { turn-of };
+
+    fn drinkers(&self) -> usize {
+        self.neighbourhood.drinkers()
+    }
+
+    // As many as the drinkers, and twice the bottles.
+    fn cap(&self) -> usize {
+        self.neighbourhood.drinkers() + 2 * self.neighbourhood.bottles()
+    }
+
+    fn neighbours(&self, p: usize, q: usize) -> bool {
+        self.neighbourhood.contains(p, q)
+    }
+
+    fn phase(&self, p: usize) -> Result<Phase, Refusal> {
+        if p >= self.neighbourhood.drinkers() {
+            return Err(Refusal::NoSuchDrinker);
+        }
+        Ok(self.phases[p])
+    }
+
+    fn hungry(&mut self, p: usize) -> Result<(), Refusal> {
+        match self.phase(p)? {
+            Phase::Thinking => {
+                self.phases[p] = Phase::Hungry;
+                Ok(())
+            }
+            _ => Err(Refusal::WrongState),
+        }
+    }
+
+    fn done(&mut self, p: usize) -> Result<(), Refusal> {
+        match self.phase(p)? {
+            Phase::Eating => {
+                yield_to_all(&mut self.precedes, &self.neighbourhood, p);
+                self.phases[p] = Phase::Thinking;
+                Ok(())
+            }
+            _ => Err(Refusal::WrongState),
+        }
+    }
+
+    fn turn(&mut self) {
+        feed_in_order(&self.neighbourhood, &self.precedes, &mut self.phases);
+    }
+}
