@@ -1,5 +1,8 @@
+pub mod Diners
 pub mod Done
 pub mod OnePhase
+pub mod Starting
+pub mod Tables
 pub mod Turn
 pub mod Upstream
 pub mod Waiting

@@ -69,8 +69,8 @@ module _ (a b c : Dining) (A : Lawful a) (g : Feeds a b) (k : Feeds b c) where
       (λ s. ⊎-elim
       (λ t. inl (omega (arith, t, first)))
       (λ t. inr (λ x o e.
-          let ate = A .holders-eat p x h o in
-          t x (s x o (omega (arith, ate .0, g .goes-on .same-drinkers), still-eating a b g x (ate .1))) e))
+      let ate = A .holders-eat p x h o in
+      t x (s x o (omega (arith, ate .0, g .goes-on .same-drinkers), still-eating a b g x (ate .1))) e))
       (k .goes-on .ahead-falls-or-holders-stay p (m, i)))
       (g .goes-on .ahead-falls-or-holders-stay p (h, m))
 
@@ -85,7 +85,7 @@ module _ (a b c : Dining) (A : Lawful a) (g : Feeds a b) (k : Feeds b c) where
       same-cap = k .goes-on .same-cap ∙ g .goes-on .same-cap;
       same-neighbours = λ p q. k .goes-on .same-neighbours p q ∙ g .goes-on .same-neighbours p q;
       ahead-never-rises = λ p s. (let m = between p (s .0) (s .1) in
-      omega (arith, g .goes-on .ahead-never-rises p (s .0, m), k .goes-on .ahead-never-rises p (m, s .1)));
+          omega (arith, g .goes-on .ahead-never-rises p (s .0, m), k .goes-on .ahead-never-rises p (m, s .1)));
       ahead-falls-or-holders-stay = λ p s. holders p (s .0) (s .1);
     };
   }

@@ -10,10 +10,10 @@ use dining::Phase;
 use graph::Neighbourhood;
 use relations::Relation;
 
+pub mod calls;
 pub mod feeding;
 pub mod making;
 pub mod yielding;
-pub mod calls;
 
 #[derive(Clone, Copy)]
 pub struct ForkDiner {

@@ -8,7 +8,13 @@ use graph::Neighbourhood;
 use relations::Relation;
 
 // Does q keep p from eating? It does if it is a neighbour that eats, or a hungry one that precedes p.
-fn is_blocked_by(neighbourhood: &Neighbourhood, precedes: &Relation, phases: &[Phase; 16], p: usize, q: usize) -> bool
+fn is_blocked_by(
+    neighbourhood: &Neighbourhood,
+    precedes: &Relation,
+    phases: &[Phase; 16],
+    p: usize,
+    q: usize,
+) -> bool
     requires { ⌜ q < 16 ⌝ }
     ensures { λ r. ⌜ r ≡ blocks (forks-of (now (neighbourhood .entry)) (now (phases .entry)) (now (precedes .entry))) p q ⌝ }
 {
@@ -21,7 +27,12 @@ fn is_blocked_by(neighbourhood: &Neighbourhood, precedes: &Relation, phases: &[P
 }
 
 // May p eat? It is hungry, no neighbour eats, and no hungry neighbour precedes it.
-fn is_free_to_eat(neighbourhood: &Neighbourhood, precedes: &Relation, phases: &[Phase; 16], p: usize) -> bool
+fn is_free_to_eat(
+    neighbourhood: &Neighbourhood,
+    precedes: &Relation,
+    phases: &[Phase; 16],
+    p: usize,
+) -> bool
     requires { ⌜ p < 16 ⌝ }
     ensures { λ r. ⌜ r ≡ may-eat (forks-of (now (neighbourhood .entry)) (now (phases .entry)) (now (precedes .entry))) p ⌝ }
 {
@@ -41,8 +52,13 @@ fn is_free_to_eat(neighbourhood: &Neighbourhood, precedes: &Relation, phases: &[
 }
 
 // Visits the drinkers in number order and feeds, at once, each that may eat.
-pub(super) fn feed_in_order(neighbourhood: &Neighbourhood, precedes: &Relation, phases: &mut [Phase; 16])
-    ensures { λ _. ⌜ phase-at (now (phases .exit)) ≡ visited (forks-of (now (neighbourhood .entry)) (now (phases .entry)) (now (precedes .entry))) (now (neighbourhood .entry) .drinkers) ⌝ }
+pub(super) fn feed_in_order(
+    neighbourhood: &Neighbourhood,
+    precedes: &Relation,
+    phases: &mut [Phase; 16],
+)
+    ensures places { λ _. ⌜ length (now (phases .exit)) ≡ 16 ⌝ }
+    ensures fed { λ _. ⌜ phase-at (now (phases .exit)) ≡ visited (forks-of (now (neighbourhood .entry)) (now (phases .entry)) (now (precedes .entry))) (now (neighbourhood .entry) .drinkers) ⌝ }
 {
     for p in 0..neighbourhood.drinkers() {
         if is_free_to_eat(neighbourhood, precedes, phases, p) {

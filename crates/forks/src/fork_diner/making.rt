@@ -6,6 +6,7 @@ ghost use lib.Dec.{ltb};
 ghost use lib.ListN.{length};
 ghost use Rattle.forks.specs.Forks.{started};
 ghost use Rattle.forks.specs.ForkDiners.{forks};
+ghost use Rattle.forks.specs.Upstream.{Upstream-is-by-chains};
 ghost use Rattle.graph.specs.Ends.{neighbours};
 ghost use Rattle.graph.specs.Graphs.{ends-of};
 ghost use Rattle.relations.specs.Related.{related};
@@ -37,4 +38,9 @@ impl ForkDiner {
             precedes: lower_precedes(graph),
         }
     }
+
+    // A theorem and no computation: who is upstream of a drinker is who has a chain of "precedes" that leads to it.
+    pub fn upstream_is_by_chains(&self)
+        ensures { λ _. ⌜ Upstream-is-by-chains (forks (now (self .entry))) ⌝ }
+    {}
 }

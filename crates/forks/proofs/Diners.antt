@@ -1,0 +1,87 @@
+-- From a fork diner's tables to its model and back: every diner is orderly, and what a call writes is what the model has.
+use mathlib.Core.Path.{_≡_, refl, sym, ap, _∙_, fun-ext, subst}
+use mathlib.Core.Bool.{Bool, true, false, cond, _&&_, _||_}
+use mathlib.Core.List.{List}
+use Prim.Native.Nat.{ℕ, _+_, _≤_, _<_}
+use native.Mathlib.Omega.{arith}
+use lib.Dec.{eqb, ltb}
+use lib.ListN.{length, set}
+use Rattle.std.proofs.shelf.Ways.{tells}
+use Rattle.dining.specs.declared.phase.Phase.{Phase}
+use Rattle.dining.specs.declared.phase.Phase.the-variants.{Thinking, Hungry, Eating}
+use Rattle.dining.specs.Phases.{with-phase}
+use Rattle.graph.specs.declared.neighbourhood.Neighbourhood.{Neighbourhood}
+use Rattle.graph.specs.Neighbourhoods.{near}
+use Rattle.graph.specs.Counting.{total, number}
+use Rattle.relations.specs.declared.relation.Relation.{Relation}
+use Rattle.relations.specs.Related.{related, Written, is-pair}
+use Rattle.forks.specs.declared.fork_diner.ForkDiner.{ForkDiner}
+use Rattle.forks.specs.Forks.{Forks, forks-of, phase-at, with-phases, after-hungry, behind, after-done}
+use Rattle.forks.specs.ForkDiners.{forks, Yields}
+use Rattle.forks.specs.Orderly.{Orderly}
+use Rattle.forks.specs.Waiting.{degree}
+use Rattle.forks.proofs.Tables.{phase-written}
+
+pub orderly : (d : ForkDiner) → Orderly (forks d)
+unfolding degree
+orderly d = record {
+  few = d .neighbourhood .few;
+  room = d .neighbourhood .room;
+  known = d .neighbourhood .known;
+  symmetric = d .neighbourhood .symmetric;
+  irreflexive = d .neighbourhood .irreflexive;
+  sparse = d .neighbourhood .sparse;
+  only = d .only;
+  either = d .either;
+  ranked = d .ranked;
+  apart = d .apart;
+}
+
+-- `hungry` writes one phase.
+pub hungry-written : (s : Neighbourhood) (xs : List Phase) (r : Relation) (p : ℕ) → p < length xs
+    → forks-of s (set xs p Hungry) r ≡ after-hungry (forks-of s xs r) p
+hungry-written s xs r p l = ap (with-phases (forks-of s xs r)) (phase-written xs p Hungry l)
+
+-- `done` writes the pairs of p one by one, and p's phase.
+pub yields-none : (s : Neighbourhood) (r : Relation) (p : ℕ) → Yields s r p 0 r
+yields-none s r p a b = go (near s a p) (related r a b)
+  where
+    go : (x y : Bool) → y ≡ cond (eqb a p && ltb b 0) false (cond (eqb b p && ltb a 0) x y)
+    go x y = grind (arith, tells)
+
+module _ (s : Neighbourhood) (old sofar middle new : Relation) (p q : ℕ) (small : (p < 16) × (q < 16)) where
+  pub yields-more : Yields s old p q sofar → Written sofar p q false middle → (v : Bool) → v ≡ near s q p → Written middle q p v new → Yields s old p (q + 1) new
+  yields-more Y first v e second a b =
+      go (related sofar a b) (related middle a b) (related new a b) (related old a b) (near s a p) (Y a b) (first a b) (second a b)
+      (λ (h : a ≡ q). e ∙ ap (λ c. near s c p) (sym h))
+      (λ (h : a ≡ p). unrelated (near s a p) (λ t. s .irreflexive p (ap (λ c. near s c p) (sym h) ∙ t)))
+    where
+      unrelated : (t : Bool) → (t ≡ true → ⊥) → t ≡ false
+      unrelated true h = absurd (h refl)
+      unrelated false h = refl
+
+      go : (x y z o k : Bool) → x ≡ cond (eqb a p && ltb b q) false (cond (eqb b p && ltb a q) k o)
+          → y ≡ cond (is-pair p q a b) false x → z ≡ cond (is-pair q p a b) v y → (a ≡ q → v ≡ k) → (a ≡ p → k ≡ false)
+          → z ≡ cond (eqb a p && ltb b (q + 1)) false (cond (eqb b p && ltb a (q + 1)) k o)
+      go x y z o k h i j m n = let u = small .0 in let w = small .1 in grind (arith, tells)
+
+module _ (d : ForkDiner) (p : ℕ) (l : p < d .neighbourhood .drinkers) (new : Relation)
+    (Y : Yields (d .neighbourhood) (d .precedes) p (d .neighbourhood .drinkers) new) where
+  all-yielded : (a b : ℕ) → related new a b ≡ behind (forks d) p a b
+  unfolding behind
+  all-yielded a b = Y a b ∙ go (near (d .neighbourhood) a p) (related (d .precedes) a b)
+      (λ h. d .neighbourhood .known a p h .0) (λ h. d .neighbourhood .known a b (d .only a b h))
+    where
+      go : (x y : Bool) → (x ≡ true → a < d .neighbourhood .drinkers) → (y ≡ true → (a < d .neighbourhood .drinkers) × (b < d .neighbourhood .drinkers))
+          → cond (eqb a p && ltb b (d .neighbourhood .drinkers)) false (cond (eqb b p && ltb a (d .neighbourhood .drinkers)) x y)
+          ≡ cond (eqb a p) false (cond (eqb b p) x y)
+      go x y h i = grind (arith, tells)
+
+  pub done-written : p < length (d .phases) → forks-of (d .neighbourhood) (set (d .phases) p Thinking) new ≡ after-done (forks d) p
+  done-written room = λ i. record {
+    drinkers = d .neighbourhood .drinkers;
+    bottles = d .neighbourhood .bottles;
+    neighbours = near (d .neighbourhood);
+    phase = phase-written (d .phases) p Thinking room i;
+    precedes = fun-ext (λ a. fun-ext (all-yielded a)) i;
+  }

@@ -1,0 +1,17 @@
+use mathlib.Core.Path.{sym, ap, subst}
+use native.Mathlib.Omega.{arith}
+use Rattle.forks.specs.ForkDiners.{forks}
+use Rattle.forks.specs.Forks.{with-phases}
+use Rattle.forks.specs.Orderly.{Orderly}
+use Rattle.forks.proofs.Diners.{orderly}
+use Rattle.forks.proofs.Turn.{orderly-turn}
+use Rattle.forks.proofs.fork_diner.calls.ForkDining.turn.Needs as need
+
+pub ghost-self : need.ghost-self
+ghost-self c =
+    let d = c .args .self .now in
+    let kept = subst Orderly (sym (ap (with-phases (forks d)) (c .feed-in-order .ensures .fed))) (orderly-turn (forks d) (orderly d)) in
+    (c .feed-in-order .ensures .places, (kept .only, (kept .either, (kept .ranked, (kept .apart, tt)))))
+
+pub returns : need.returns
+returns c = ap (with-phases (forks (c .args .self .now))) (c .feed-in-order .ensures .fed)
