@@ -1,0 +1,39 @@
+// The entries of a queue: who has one, and how one is taken out.
+ghost use mathlib.Core.Path.{_≡_};
+ghost use Prim.Native.Nat.{_≤_};
+ghost use lib.ListN.{length, take};
+ghost use Rattle.queueing.specs.Queue.{phase-in, without};
+use crate::entry::Entry;
+use dining::Phase;
+
+// The phase of p, by the first `waiting` entries.
+pub(super) fn phase_of(entries: &[Entry; 16], waiting: usize, p: usize) -> Phase
+    requires { ⌜ waiting ≤ 16 ⌝ }
+    ensures { λ r. ⌜ r ≡ phase-in (take waiting (now (entries .entry))) p ⌝ }
+{
+    for i in 0..waiting {
+        let entry = entries[i];
+        if entry.drinker == p {
+            return if entry.eating { Phase::Eating } else { Phase::Hungry };
+        }
+    }
+    Phase::Thinking
+}
+
+// Takes p out of the first `waiting` entries, the others closing up, and answers how many are left.
+pub(super) fn remove(entries: &mut [Entry; 16], waiting: usize, p: usize) -> usize
+    requires { ⌜ waiting ≤ 16 ⌝ }
+    ensures few { λ r. ⌜ r ≤ waiting ⌝ }
+    ensures room { λ _. ⌜ length (now (entries .exit)) ≡ 16 ⌝ }
+    ensures left { λ r. ⌜ take r (now (entries .exit)) ≡ without (take waiting (now (entries .entry))) p ⌝ }
+{
+    let mut left = 0;
+    for i in 0..waiting {
+        let entry = entries[i];
+        if entry.drinker != p {
+            entries[left] = entry;
+            left += 1;
+        }
+    }
+    left
+}
