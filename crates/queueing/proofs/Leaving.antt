@@ -29,8 +29,8 @@ module _ (p : ℕ) where
   phase-of-left [] q d = refl
   phase-of-left (e ∷ es) q d = ⊎-elim
       (λ (t : eqb (e .drinker) p ≡ true).
-          let other : eqb (e .drinker) q ≡ false = ne-eqb (e .drinker) q (λ x. d (sym x ∙ eqb-true (e .drinker) p t)) in
-          rw (t, other) (phase-of-left es q d))
+      let other : eqb (e .drinker) q ≡ false = ne-eqb (e .drinker) q (λ x. d (sym x ∙ eqb-true (e .drinker) p t)) in
+      rw (t, other) (phase-of-left es q d))
       (λ (t : eqb (e .drinker) p ≡ false). rw t (ap (λ x. cond (eqb (e .drinker) q) (cond (e .eating) Eating Hungry) x) (phase-of-left es q d)))
       (cases-bool (eqb (e .drinker) p))
 
@@ -38,8 +38,8 @@ module _ (p : ℕ) where
   ahead-of-left [] q d = omega arith
   ahead-of-left (e ∷ es) q d = ⊎-elim
       (λ (t : eqb (e .drinker) p ≡ true).
-          let other : eqb (e .drinker) q ≡ false = ne-eqb (e .drinker) q (λ x. d (sym x ∙ eqb-true (e .drinker) p t)) in
-          let rest = ahead-of-left es q d in rw (t, other) (omega arith))
+      let other : eqb (e .drinker) q ≡ false = ne-eqb (e .drinker) q (λ x. d (sym x ∙ eqb-true (e .drinker) p t)) in
+      let rest = ahead-of-left es q d in rw (t, other) (omega arith))
       (λ (t : eqb (e .drinker) p ≡ false). let rest = ahead-of-left es q d in rw t (go (eqb (e .drinker) q) _ _ rest))
       (cases-bool (eqb (e .drinker) p))
     where
@@ -51,13 +51,13 @@ module _ (p : ℕ) where
   ahead-behind [] q d h = absurd (both-ways false refl h)
   ahead-behind (e ∷ es) q d h = ⊎-elim
       (λ (t : eqb (e .drinker) p ≡ true).
-          let other : eqb (e .drinker) q ≡ false = ne-eqb (e .drinker) q (λ x. d (sym x ∙ eqb-true (e .drinker) p t)) in
-          let rest = ahead-of-left es q d in rw (t, other) (omega arith))
+      let other : eqb (e .drinker) q ≡ false = ne-eqb (e .drinker) q (λ x. d (sym x ∙ eqb-true (e .drinker) p t)) in
+      let rest = ahead-of-left es q d in rw (t, other) (omega arith))
       (λ (t : eqb (e .drinker) p ≡ false). ⊎-elim
       (λ (u : eqb (e .drinker) q ≡ true). absurd (both-ways false refl (rw u at h)))
       (λ (u : eqb (e .drinker) q ≡ false).
-          let k : holder-in es q p ≡ true = rw (u, t) at h in
-          let rest = ahead-behind es q d k in rw (t, u) (omega arith))
+      let k : holder-in es q p ≡ true = rw (u, t) at h in
+      let rest = ahead-behind es q d k in rw (t, u) (omega arith))
       (cases-bool (eqb (e .drinker) q)))
       (cases-bool (eqb (e .drinker) p))
 
@@ -65,9 +65,9 @@ module _ (p : ℕ) where
   holder-of-left [] q h d c k = k
   holder-of-left (e ∷ es) q h d c k = ⊎-elim
       (λ (t : eqb (e .drinker) p ≡ true).
-          let other : eqb (e .drinker) q ≡ false = ne-eqb (e .drinker) q (λ x. d (sym x ∙ eqb-true (e .drinker) p t)) in
-          let not-h : eqb (e .drinker) h ≡ false = ne-eqb (e .drinker) h (λ x. c (sym x ∙ eqb-true (e .drinker) p t)) in
-          rw t (holder-of-left es q h d c (rw (other, not-h) at k)))
+      let other : eqb (e .drinker) q ≡ false = ne-eqb (e .drinker) q (λ x. d (sym x ∙ eqb-true (e .drinker) p t)) in
+      let not-h : eqb (e .drinker) h ≡ false = ne-eqb (e .drinker) h (λ x. c (sym x ∙ eqb-true (e .drinker) p t)) in
+      rw t (holder-of-left es q h d c (rw (other, not-h) at k)))
       (λ (t : eqb (e .drinker) p ≡ false). ⊎-elim
       (λ (u : eqb (e .drinker) q ≡ true). absurd (both-ways false refl (rw u at k)))
       (λ (u : eqb (e .drinker) q ≡ false). rw (t, u) (⊎-elim

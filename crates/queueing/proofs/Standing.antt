@@ -37,11 +37,11 @@ module _ (near : ℕ → ℕ → Bool) (symmetric : (p q : ℕ) → near p q ≡
       let P = parts near n e es o in
       ⊎-elim
       (λ (s : e .drinker ≡ p).
-          let other : e .drinker ≡ q → ⊥ = λ t. irreflexive p (ap (near p) (sym s ∙ t) ∙ h) in
-          both-ways _ (P .first) (eating-neighbour-from near (e .drinker) q es (rw s h) (rw (ne-eqb (e .drinker) q other) at b)))
+      let other : e .drinker ≡ q → ⊥ = λ t. irreflexive p (ap (near p) (sym s ∙ t) ∙ h) in
+      both-ways _ (P .first) (eating-neighbour-from near (e .drinker) q es (rw s h) (rw (ne-eqb (e .drinker) q other) at b)))
       (λ (s : e .drinker ≡ p → ⊥). ⊎-elim
       (λ (t : e .drinker ≡ q).
-          both-ways _ (P .first) (eating-neighbour-from near (e .drinker) p es (rw t (symmetric p q h)) (rw (ne-eqb (e .drinker) p s) at a)))
+      both-ways _ (P .first) (eating-neighbour-from near (e .drinker) p es (rw t (symmetric p q h)) (rw (ne-eqb (e .drinker) p s) at a)))
       (λ (t : e .drinker ≡ q → ⊥). apart es (P .rest) p q h (rw (ne-eqb (e .drinker) p s) at a) (rw (ne-eqb (e .drinker) q t) at b))
       (cases-eq (e .drinker) q))
       (cases-eq (e .drinker) p)
@@ -55,10 +55,10 @@ module _ (near : ℕ → ℕ → Bool) (symmetric : (p q : ℕ) → near p q ≡
       (λ (s : eqb (e .drinker) p ≡ false). ⊎-elim
       (λ u. let v = and-parts (eqb (e .drinker) h) _ u in rw (v .0, v .1))
       (λ u.
-          let ate = holder-eats es (P .rest) p h u in
-          let here = entry-where-not-thinking es h (λ x. let z : _≡_ {A = ℕ} 0 1 = cc in omega arith) in
-          let other : e .drinker ≡ h → ⊥ = λ x. both-ways _ (P .once) (ap (has-entry es) x ∙ here) in
-          rw (ne-eqb (e .drinker) h other) ate)
+      let ate = holder-eats es (P .rest) p h u in
+      let here = entry-where-not-thinking es h (λ x. let z : _≡_ {A = ℕ} 0 1 = cc in omega arith) in
+      let other : e .drinker ≡ h → ⊥ = λ x. both-ways _ (P .once) (ap (has-entry es) x ∙ here) in
+      rw (ne-eqb (e .drinker) h other) ate)
       (or-cases (eqb (e .drinker) h && e .eating) _ (rw s at t)))
       (cases-bool (eqb (e .drinker) p))
 

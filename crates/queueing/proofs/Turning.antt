@@ -47,10 +47,10 @@ module _ (near : ℕ → ℕ → Bool) where
       (λ (u : eqb (e .drinker) q ≡ true). absurd (both-ways false refl (rw u at k)))
       (λ (u : eqb (e .drinker) q ≡ false). rw u (⊎-elim
       (λ a. let b = and-parts (eqb (e .drinker) h) _ a in
-          or-left (eqb (e .drinker) h && (e .eating || not (has-neighbour near earlier (e .drinker)))) _
-          (and-from (eqb (e .drinker) h) _ (b .0) (or-left (e .eating) _ (b .1))))
+      or-left (eqb (e .drinker) h && (e .eating || not (has-neighbour near earlier (e .drinker)))) _
+      (and-from (eqb (e .drinker) h) _ (b .0) (or-left (e .eating) _ (b .1))))
       (λ a. or-right (eqb (e .drinker) h && (e .eating || not (has-neighbour near earlier (e .drinker)))) _
-          (holder-fed (earlier ++ e ∷ []) es q h a))
+      (holder-fed (earlier ++ e ∷ []) es q h a))
       (or-cases (eqb (e .drinker) h && e .eating) _ (rw u at k))))
       (cases-bool (eqb (e .drinker) q))
 
@@ -59,8 +59,11 @@ module _ (near : ℕ → ℕ → Bool) where
   first-holds [] q w = let z : _≡_ {A = ℕ} 0 1 = cc in absurd (omega arith)
   first-holds (e ∷ es) q w = ⊎-elim
       (λ (u : eqb (e .drinker) q ≡ true). absurd (eats (e .eating) (rw u at w)))
-      (λ (u : eqb (e .drinker) q ≡ false). (e .drinker, rw u (or-left (eqb (e .drinker) (e .drinker) && (e .eating || true)) _
-      (and-from (eqb (e .drinker) (e .drinker)) _ (eq-eqb (e .drinker) (e .drinker) refl) (or-right (e .eating) true refl)))))
+      (λ (u : eqb (e .drinker) q ≡ false). (
+        e .drinker,
+        rw u (or-left (eqb (e .drinker) (e .drinker) && (e .eating || true)) _
+            (and-from (eqb (e .drinker) (e .drinker)) _ (eq-eqb (e .drinker) (e .drinker) refl) (or-right (e .eating) true refl))),
+      ))
       (cases-bool (eqb (e .drinker) q))
     where
       eats : (b : Bool) → cond (b || true) Eating Hungry ≡ Hungry → ⊥
@@ -68,7 +71,7 @@ module _ (near : ℕ → ℕ → Bool) where
       eats false x = let z : _≡_ {A = ℕ} 0 1 = cc in omega arith
 
   -- Whose neighbours are all blocked by an earlier entry has no neighbour that is fed later.
-  neighbour-push : (earlier : List Entry) (e : Entry) (q : ℕ) → has-neighbour near (earlier ++ e ∷ []) q ≡ (has-neighbour near earlier q || near (e .drinker) q)
+  pub neighbour-push : (earlier : List Entry) (e : Entry) (q : ℕ) → has-neighbour near (earlier ++ e ∷ []) q ≡ (has-neighbour near earlier q || near (e .drinker) q)
   neighbour-push [] e q = go (near (e .drinker) q)
     where
       go : (t : Bool) → (t || false) ≡ t

@@ -42,7 +42,10 @@ pub impl Diner for QueueDiner as QueueDining {
         match self.phase(p)? {
             Phase::Thinking => {
                 let place = self.waiting;
-                self.entries[place] = Entry { drinker: p, eating: false };
+                self.entries[place] = Entry {
+                    drinker: p,
+                    eating: false,
+                };
                 self.waiting = place + 1;
                 Ok(())
             }

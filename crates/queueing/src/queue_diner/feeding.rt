@@ -23,7 +23,11 @@ fn has_earlier_neighbour(neighbourhood: &Neighbourhood, entries: &[Entry; 16], p
 }
 
 // Each of the first `waiting` entries that has no neighbour earlier in the queue eats.
-pub(super) fn feed_unblocked(neighbourhood: &Neighbourhood, entries: &mut [Entry; 16], waiting: usize)
+pub(super) fn feed_unblocked(
+    neighbourhood: &Neighbourhood,
+    entries: &mut [Entry; 16],
+    waiting: usize,
+)
     requires { ⌜ waiting ≤ 16 ⌝ }
     ensures room { λ _. ⌜ length (now (entries .exit)) ≡ 16 ⌝ }
     ensures fed { λ _. ⌜ take waiting (now (entries .exit)) ≡ fed (near (now (neighbourhood .entry))) [] (take waiting (now (entries .entry))) ⌝ }

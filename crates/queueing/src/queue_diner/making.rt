@@ -16,7 +16,10 @@ impl QueueDiner {
     {
         QueueDiner {
             neighbourhood: Neighbourhood::new(graph),
-            entries: [Entry { drinker: 0, eating: false }; 16],
+            entries: [Entry {
+                drinker: 0,
+                eating: false,
+            }; 16],
             waiting: 0,
         }
     }

@@ -14,7 +14,11 @@ pub(super) fn phase_of(entries: &[Entry; 16], waiting: usize, p: usize) -> Phase
     for i in 0..waiting {
         let entry = entries[i];
         if entry.drinker == p {
-            return if entry.eating { Phase::Eating } else { Phase::Hungry };
+            return if entry.eating {
+                Phase::Eating
+            } else {
+                Phase::Hungry
+            };
         }
     }
     Phase::Thinking
