@@ -2,3 +2,4 @@
 pub mod fork_diner;
 
 pub use fork_diner::ForkDiner;
+pub use fork_diner::calls::ForkDining;
