@@ -78,15 +78,14 @@ shared-all es p i within l S b = S b ∙ go (touches (end-at es b) p)
     go x = grind (arith, tells)
 
 -- The table of neighbours, one bottle more.
-module _ (es : List Ends) (i : ℕ) (l : i < length es) (small : (end-at es i .lower < 16) × (end-at es i .higher < 16)) where
-  pub table-more : (old middle new : ℕ → ℕ → Bool) (u v : ℕ) → u ≡ end-at es i .lower → v ≡ end-at es i .higher
-      → ((p q : ℕ) → old p q ≡ neighbours (take i es) p q)
-      → ((p q : ℕ) → middle p q ≡ cond (is-pair u v p q) true (old p q))
-      → ((p q : ℕ) → new p q ≡ cond (is-pair v u p q) true (middle p q))
-      → (p q : ℕ) → new p q ≡ neighbours (take (i + 1) es) p q
-  table-more old middle new u v eu ev h first second p q =
-      go (old p q) (middle p q) (new p q) (neighbours (take i es) p q) (h p q) (first p q) (second p q)
-      ∙ sym (ap (λ xs. neighbours xs p q) (take-more es i (between 0 0) l) ∙ neighbours-push (take i es) (end-at es i) p q)
-    where
-      go : (x y z k : Bool) → x ≡ k → y ≡ cond (is-pair u v p q) true x → z ≡ cond (is-pair v u p q) true y → z ≡ (k || joins (end-at es i) p q)
-      go x y z k a b c = let s = small .0 in let t = small .1 in grind (arith, tells)
+pub related-both-ways : (u v p q : ℕ) → u < 16 → v < 16 → (old middle new : Bool)
+    → middle ≡ cond (is-pair u v p q) true old → new ≡ cond (is-pair v u p q) true middle → new ≡ (old || joins (between u v) p q)
+related-both-ways u v p q l m old middle new first second = grind (arith, tells)
+
+pub table-more : (es : List Ends) (i : ℕ) → i < length es → (old new : ℕ → ℕ → Bool)
+    → ((p q : ℕ) → old p q ≡ neighbours (take i es) p q) → ((p q : ℕ) → new p q ≡ (old p q || joins (end-at es i) p q))
+    → (p q : ℕ) → new p q ≡ neighbours (take (i + 1) es) p q
+table-more es i l old new h more p q =
+    more p q
+    ∙ ap (λ t. t || joins (end-at es i) p q) (h p q)
+    ∙ sym (ap (λ xs. neighbours xs p q) (take-more es i (between 0 0) l) ∙ neighbours-push (take i es) (end-at es i) p q)

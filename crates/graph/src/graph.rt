@@ -5,6 +5,7 @@ ghost use lib.ListN.{length, take};
 ghost use Rattle.graph.specs.Ends.{Ends-ordered, Pairs-once};
 use crate::ends::Ends;
 
+pub mod asking;
 pub mod joining;
 
 #[derive(Clone, Copy)]

@@ -2,14 +2,18 @@
 use mathlib.Core.Path.{_≡_}
 use mathlib.Core.Bool.{Bool, false, cond, _&&_}
 use mathlib.Core.List.{List, []}
-use Prim.Native.Nat.{ℕ}
+use Prim.Native.Nat.{ℕ, _<_}
 use lib.Dec.{eqb, ltb}
-use lib.ListN.{getD}
+use lib.ListN.{length, getD}
 use Rattle.relations.specs.declared.relation.Relation.{Relation}
 
 -- what stands in row p at q; outside the table, nothing is related
 unfoldable pub at : List (List Bool) → ℕ → ℕ → Bool
 at rows p q = getD (getD rows p []) q false
+
+-- sixteen rows of sixteen
+abbrev pub Square : List (List Bool) → Type 0
+Square rows = (length rows ≡ 16) × ((p : ℕ) → p < 16 → length (getD rows p []) ≡ 16)
 
 -- p is related to q
 abbrev pub related : Relation → ℕ → ℕ → Bool

@@ -5,6 +5,7 @@ ghost use Prim.Native.Nat.{ℕ, _<_};
 ghost use lib.ListN.{length, getD};
 
 pub mod access;
+mod rows;
 
 #[derive(Clone, Copy)]
 pub struct Relation {

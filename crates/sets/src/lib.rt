@@ -4,6 +4,13 @@ ghost use mathlib.Core.Bool.{true, false};
 ghost use Prim.Native.Nat.{ℕ};
 ghost use Rattle.sets.specs.Members.{has, None-in, Some-in, Within, Adds, with-bits};
 
+mod words;
+
+use words::bit;
+use words::is_part;
+use words::is_zero;
+use words::with_bit;
+
 #[derive(Clone, Copy, PartialEq, Eq, Debug)]
 pub struct Set {
     bits: u32,
@@ -28,30 +35,29 @@ impl Set {
     pub fn bits(self) -> u32
         ensures { λ r. ⌜ self ≡ with-bits r ⌝ }
     {
-        self.bits
+        let Set { bits } = self;
+        bits
     }
 
     // Is this number a member? A number of 32 or more never is.
     pub fn contains(self, member: usize) -> bool
         ensures { λ r. ⌜ r ≡ has self member ⌝ }
     {
-        member < 32 && (self.bits >> member) % 2 == 1
+        bit(self.bits, member)
     }
 
     // Adds a member. A number of 32 or more adds nothing.
     pub fn insert(&mut self, member: usize)
         ensures { λ _. ⌜ Adds (now (self .entry)) member (now (self .exit)) ⌝ }
     {
-        if member < 32 {
-            self.bits = self.bits | (1 << member);
-        }
+        self.bits = with_bit(self.bits, member);
     }
 
     pub fn is_empty(self) -> bool
         ensures none { λ r. ⌜ (r ≡ true → None-in self) ⌝ }
         ensures some { λ r. ⌜ (r ≡ false → Some-in self) ⌝ }
     {
-        self.bits == 0
+        is_zero(self.bits)
     }
 
     // Is each member of this set a member of the other?
@@ -59,6 +65,6 @@ impl Set {
         ensures within { λ r. ⌜ (r ≡ true → Within self other) ⌝ }
         ensures outside { λ r. ⌜ (r ≡ false → Within self other → ⊥) ⌝ }
     {
-        self.bits & other.bits == self.bits
+        is_part(self.bits, other.bits)
     }
 }

@@ -1,13 +1,24 @@
 // How a neighbourhood is made from a graph, and asked.
 ghost use mathlib.Core.Path.{_≡_};
-ghost use Prim.Native.Nat.{ℕ};
-ghost use Rattle.graph.specs.Ends.{neighbours};
+ghost use mathlib.Core.Bool.{_||_};
+ghost use Prim.Native.Nat.{ℕ, _<_};
+ghost use Rattle.graph.specs.Ends.{joins, neighbours};
 ghost use Rattle.graph.specs.Graphs.{ends-of};
 ghost use Rattle.graph.specs.Neighbourhoods.{near, Of-graph};
 ghost use Rattle.relations.specs.Related.{related};
+use crate::ends::Ends;
 use crate::graph::Graph;
 use crate::neighbourhood::Neighbourhood;
 use relations::Relation;
+
+// The two ends of a bottle are neighbours of each other.
+fn relate(table: &mut Relation, ends: Ends)
+    requires { ⌜ ends .lower < 16 ⌝ ∗ ⌜ ends .higher < 16 ⌝ }
+    ensures { λ _. ⌜ ((p q : ℕ) → related (now (table .exit)) p q ≡ (related (now (table .entry)) p q || joins ends p q)) ⌝ }
+{
+    table.write(ends.lower, ends.higher, true);
+    table.write(ends.higher, ends.lower, true);
+}
 
 // The table of the neighbours in a graph.
 fn neighbour_table(graph: &Graph) -> Relation
@@ -15,8 +26,7 @@ fn neighbour_table(graph: &Graph) -> Relation
 {
     let mut table = Relation::empty();
     for ends in graph.all_ends() {
-        table.write(ends.lower, ends.higher, true);
-        table.write(ends.higher, ends.lower, true);
+        relate(&mut table, *ends);
     }
     table
 }
