@@ -9,23 +9,19 @@ use Rattle.dining.specs.declared.phase.Phase.the-variants.{Thinking, Hungry, E
 use Rattle.dining.specs.Phases.{is-hungry, is-eating, with-phase}
 
 pub eating-from-test : (x : Phase) → is-eating x ≡ true → x ≡ Eating
-unfolding is-eating
 eating-from-test Thinking e = absurd (both-ways false refl e)
 eating-from-test Hungry e = absurd (both-ways false refl e)
 eating-from-test Eating e = refl
 
 pub test-from-eating : (x : Phase) → x ≡ Eating → is-eating x ≡ true
-unfolding is-eating
 test-from-eating x e = rw e
 
 pub hungry-from-test : (x : Phase) → is-hungry x ≡ true → x ≡ Hungry
-unfolding is-hungry
 hungry-from-test Thinking e = absurd (both-ways false refl e)
 hungry-from-test Hungry e = refl
 hungry-from-test Eating e = absurd (both-ways false refl e)
 
 pub test-from-hungry : (x : Phase) → x ≡ Hungry → is-hungry x ≡ true
-unfolding is-hungry
 test-from-hungry x e = rw e
 
 pub phase-here : (phases : ℕ → Phase) (p : ℕ) (x : Phase) → with-phase phases p x p ≡ x

@@ -5,12 +5,12 @@ use lib.Dec.{eqb}
 use Rattle.dining.specs.declared.phase.Phase.{Phase}
 use Rattle.dining.specs.declared.phase.Phase.the-variants.{Thinking, Hungry, Eating}
 
-unfoldable pub is-hungry : Phase → Bool
+abbrev pub is-hungry : Phase → Bool
 is-hungry Thinking = false
 is-hungry Hungry = true
 is-hungry Eating = false
 
-unfoldable pub is-eating : Phase → Bool
+abbrev pub is-eating : Phase → Bool
 is-eating Thinking = false
 is-eating Hungry = false
 is-eating Eating = true

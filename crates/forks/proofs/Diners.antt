@@ -14,7 +14,7 @@ use Rattle.graph.specs.declared.neighbourhood.Neighbourhood.{Neighbourhood}
 use Rattle.graph.specs.Neighbourhoods.{near}
 use Rattle.graph.specs.Counting.{total, number}
 use Rattle.relations.specs.declared.relation.Relation.{Relation}
-use Rattle.relations.specs.Related.{related, Written, is-pair}
+use Rattle.relations.specs.Related.{related, is-pair}
 use Rattle.forks.specs.declared.fork_diner.ForkDiner.{ForkDiner}
 use Rattle.forks.specs.Forks.{Forks, forks-of, phase-at, with-phases, after-hungry, behind, after-done}
 use Rattle.forks.specs.ForkDiners.{forks, Yields}
@@ -49,21 +49,22 @@ yields-none s r p a b = go (near s a p) (related r a b)
     go : (x y : Bool) → y ≡ cond (eqb a p && ltb b 0) false (cond (eqb b p && ltb a 0) x y)
     go x y = grind (arith, tells)
 
-module _ (s : Neighbourhood) (old sofar middle new : Relation) (p q : ℕ) (small : (p < 16) × (q < 16)) where
-  pub yields-more : Yields s old p q sofar → Written sofar p q false middle → (v : Bool) → v ≡ near s q p → Written middle q p v new → Yields s old p (q + 1) new
-  yields-more Y first v e second a b =
-      go (related sofar a b) (related middle a b) (related new a b) (related old a b) (near s a p) (Y a b) (first a b) (second a b)
-      (λ (h : a ≡ q). e ∙ ap (λ c. near s c p) (sym h))
+module _ (s : Neighbourhood) (old sofar new : Relation) (p q : ℕ) (small : (p < 16) × (q < 16)) where
+  pub yields-more : Yields s old p q sofar
+      → ((a b : ℕ) → related new a b ≡ cond (is-pair q p a b) (near s q p) (cond (is-pair p q a b) false (related sofar a b)))
+      → Yields s old p (q + 1) new
+  yields-more Y more a b =
+      more a b ∙ go (related sofar a b) (related old a b) (near s a p) (near s q p) (Y a b)
+      (λ (h : a ≡ q). ap (λ c. near s c p) (sym h))
       (λ (h : a ≡ p). unrelated (near s a p) (λ t. s .irreflexive p (ap (λ c. near s c p) (sym h) ∙ t)))
     where
       unrelated : (t : Bool) → (t ≡ true → ⊥) → t ≡ false
       unrelated true h = absurd (h refl)
       unrelated false h = refl
 
-      go : (x y z o k : Bool) → x ≡ cond (eqb a p && ltb b q) false (cond (eqb b p && ltb a q) k o)
-          → y ≡ cond (is-pair p q a b) false x → z ≡ cond (is-pair q p a b) v y → (a ≡ q → v ≡ k) → (a ≡ p → k ≡ false)
-          → z ≡ cond (eqb a p && ltb b (q + 1)) false (cond (eqb b p && ltb a (q + 1)) k o)
-      go x y z o k h i j m n = let u = small .0 in let w = small .1 in grind (arith, tells)
+      go : (x o k v : Bool) → x ≡ cond (eqb a p && ltb b q) false (cond (eqb b p && ltb a q) k o) → (a ≡ q → v ≡ k) → (a ≡ p → k ≡ false)
+          → cond (is-pair q p a b) v (cond (is-pair p q a b) false x) ≡ cond (eqb a p && ltb b (q + 1)) false (cond (eqb b p && ltb a (q + 1)) k o)
+      go x o k v h m n = let u = small .0 in let w = small .1 in grind (arith, tells)
 
 module _ (d : ForkDiner) (p : ℕ) (l : p < d .neighbourhood .drinkers) (new : Relation)
     (Y : Yields (d .neighbourhood) (d .precedes) p (d .neighbourhood .drinkers) new) where

@@ -26,7 +26,6 @@ false-from true h = absurd (h refl)
 false-from false h = refl
 
 thinking-eats-not : is-eating Thinking ≡ false
-unfolding is-eating
 thinking-eats-not = refl
 
 module _ (f : Forks) (h : ℕ) where
@@ -104,7 +103,7 @@ module _ (f : Forks) (F : Orderly f) (h : ℕ) (l : h < f .drinkers) where
           (upstream-step f F p i q r (rw (behind-other f h q r d (u .1)) at t) (u .0), d)
 
   eater-done : (q i : ℕ) → (q ≡ h → ⊥) → (behind f h q i && is-eating (with-phase (f .phase) h Thinking i)) ≡ true → (f .precedes q i && is-eating (f .phase i)) ≡ true
-  unfolding behind with-phase is-eating
+  unfolding behind with-phase
   eater-done q i d t = grind (arith, tells)
 
   eaters-done : (q : ℕ) → (q ≡ h → ⊥) → eaters-behind (after-done f h) q ≤ eaters-behind f q

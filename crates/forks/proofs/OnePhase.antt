@@ -111,20 +111,16 @@ module _ (f : Forks) (F : Orderly f) (q : ℕ) (e : f .phase q ≡ Thinking) whe
 -- A hungry drinker is fed: none of its neighbours eats, and no hungry one precedes it.
 module _ (f : Forks) (F : Orderly f) (q : ℕ) (t : may-eat f q ≡ true) where
   pub fed-was-hungry : f .phase q ≡ Hungry
-  unfolding may-eat
   fed-was-hungry = hungry-from-test _ (and-parts (is-hungry (f .phase q)) _ t .0)
 
   nobody-blocks : (r : ℕ) → r < f .drinkers → blocks f q r ≡ true → ⊥
-  unfolding may-eat
   nobody-blocks r = any-none (blocks f q) (f .drinkers) r (not-true _ (and-parts (is-hungry (f .phase q)) _ t .1))
 
   no-neighbour-eats : (r : ℕ) → f .neighbours q r ≡ true → f .phase r ≡ Eating → ⊥
-  unfolding blocks
   no-neighbour-eats r n e = nobody-blocks r (F .known q r n .1)
       (or-left (f .neighbours q r && is-eating (f .phase r)) _ (and-from (f .neighbours q r) _ n (test-from-eating _ e)))
 
   no-hungry-precedes : (r : ℕ) → f .precedes r q ≡ true → f .phase r ≡ Hungry → ⊥
-  unfolding blocks
   no-hungry-precedes r b w = nobody-blocks r (F .known r q (F .only r q b) .0)
       (or-right (f .neighbours q r && is-eating (f .phase r)) _ (and-from (f .precedes r q) _ b (test-from-hungry _ w)))
 

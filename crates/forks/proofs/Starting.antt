@@ -27,7 +27,6 @@ use Rattle.forks.specs.Orderly.{Orderly}
 use Rattle.forks.specs.Waiting.{degree}
 
 all-think : phase-at (replicate 16 Thinking) ≡ (λ _. Thinking)
-unfolding phase-at
 all-think = fun-ext (go 16)
   where
     go : (n p : ℕ) → getD (replicate n Thinking) p Thinking ≡ Thinking

@@ -21,7 +21,6 @@ use Rattle.forks.specs.Forks.{Forks, phase-at, with-phases, blocks, may-eat, f
 
 -- A phase that is written.
 pub phase-written : (xs : List Phase) (p : ℕ) (x : Phase) → p < length xs → phase-at (set xs p x) ≡ with-phase (phase-at xs) p x
-unfolding phase-at
 phase-written xs p x l = fun-ext (λ j. ⊎-elim
     (λ e. rw e (getD-set-same xs p x Thinking l ∙ sym (phase-here (phase-at xs) p x)))
     (λ e. getD-set-other xs p j x Thinking e ∙ sym (phase-elsewhere (phase-at xs) p x j e))
@@ -30,11 +29,9 @@ phase-written xs p x l = fun-ext (λ j. ⊎-elim
 -- Who keeps p from eating, by the phase of the other.
 module _ (f : Forks) (p : ℕ) where
   pub thinking-blocks-not : (q : ℕ) → f .phase q ≡ Thinking → blocks f p q ≡ false
-  unfolding blocks is-eating is-hungry
   thinking-blocks-not q e = rw e (or-from (f .neighbours p q && false) _ (and-right (f .neighbours p q) _ refl) (and-right (f .precedes q p) _ refl))
 
   pub hungry-blocks : (q : ℕ) → f .phase q ≡ Hungry → blocks f p q ≡ f .precedes q p
-  unfolding blocks is-eating is-hungry
   hungry-blocks q e = rw e (go (f .neighbours p q) (f .precedes q p))
     where
       go : (a b : Bool) → ((a && false) || (b && true)) ≡ b
@@ -44,7 +41,6 @@ module _ (f : Forks) (p : ℕ) where
       go false false = refl
 
   pub eating-blocks : (q : ℕ) → f .phase q ≡ Eating → blocks f p q ≡ f .neighbours p q
-  unfolding blocks is-eating is-hungry
   eating-blocks q e = rw e (go (f .neighbours p q) (f .precedes q p))
     where
       go : (a b : Bool) → ((a && true) || (b && false)) ≡ a
@@ -63,15 +59,12 @@ module _ (f : Forks) (p : ℕ) where
   unblocked-more q a b = rw add-one (or-from (blocks f p q) _ b a)
 
   pub eats-if-unblocked : f .phase p ≡ Hungry → any (blocks f p) (f .drinkers) ≡ false → true ≡ may-eat f p
-  unfolding may-eat is-hungry
   eats-if-unblocked e a = rw (e, a)
 
   pub blocked-eats-not : (q : ℕ) → q < f .drinkers → blocks f p q ≡ true → false ≡ may-eat f p
-  unfolding may-eat
   blocked-eats-not q l b = sym (and-right (is-hungry (f .phase p)) _ (not-from-true _ (any-from (blocks f p) (f .drinkers) q l b)))
 
   pub others-eat-not : is-hungry (f .phase p) ≡ false → false ≡ may-eat f p
-  unfolding may-eat
   others-eat-not e = sym (and-left (is-hungry (f .phase p)) _ e)
 
 -- The loop of a turn: the phases after the visits of those below q, and one visit more.

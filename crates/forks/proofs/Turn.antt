@@ -95,7 +95,6 @@ abbrev Blocked : Forks → ℕ → Type 0
 Blocked f q = (r : ℕ) × (((f .neighbours q r ≡ true) × (f .phase r ≡ Eating)) ⊎ ((f .precedes r q ≡ true) × (f .phase r ≡ Hungry)))
 
 blocked : (f : Forks) (q : ℕ) → f .phase q ≡ Hungry → may-eat f q ≡ false → Blocked f q
-unfolding may-eat blocks
 blocked f q w t =
     let a : any (blocks f q) (f .drinkers) ≡ true = ⊎-elim
     (λ s. absurd (both-ways _ s (test-from-hungry _ w)))
@@ -186,8 +185,8 @@ module _ (f : Forks) (F : Orderly f) (hold : (q : ℕ) → q < f .drinkers → f
       (h .0, h .2)
 
 module _ (f : Forks) (F : Orderly f) where
-  pub orderly-turn : Orderly (after-turn f)
-  orderly-turn = visits f F (f .drinkers) .orderly
+  pub orderly-visited : (n : ℕ) → Orderly (with-phases f (visited f n))
+  orderly-visited n = visits f F n .orderly
 
   pub turn-lawful : Lawful-turn (dining f) (dining (after-turn f))
   turn-lawful = let v = visits f F (f .drinkers) in record {

@@ -59,11 +59,11 @@ after-done f h = record {
 }
 
 -- q keeps p from eating: it is a neighbour that eats, or a hungry one that precedes p
-unfoldable pub blocks : Forks → ℕ → ℕ → Bool
+abbrev pub blocks : Forks → ℕ → ℕ → Bool
 blocks f p q = (f .neighbours p q && is-eating (f .phase q)) || (f .precedes q p && is-hungry (f .phase q))
 
 -- p is hungry, and nobody keeps it from eating
-unfoldable pub may-eat : Forks → ℕ → Bool
+abbrev pub may-eat : Forks → ℕ → Bool
 may-eat f p = is-hungry (f .phase p) && not (any (blocks f p) (f .drinkers))
 
 abbrev pub feed-if : Bool → (ℕ → Phase) → ℕ → ℕ → Phase
@@ -80,7 +80,7 @@ abbrev pub after-turn : Forks → Forks
 after-turn f = with-phases f (visited f (f .drinkers))
 
 -- what stands at place p
-unfoldable pub phase-at : List Phase → ℕ → Phase
+abbrev pub phase-at : List Phase → ℕ → Phase
 phase-at phases p = getD phases p Thinking
 
 -- the model that the tables of a fork diner hold

@@ -11,9 +11,10 @@ use graph::Neighbourhood;
 use relations::Relation;
 
 pub mod calls;
-pub mod feeding;
+mod changes;
+mod feeding;
 pub mod making;
-pub mod yielding;
+mod yielding;
 
 #[derive(Clone, Copy)]
 pub struct ForkDiner {

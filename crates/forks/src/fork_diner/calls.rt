@@ -1,8 +1,6 @@
 // The fork diner behind the interface.
 ghost use Rattle.forks.specs.ForkDiners.{meaning, hunger-of, leave-of, turn-of};
 use crate::fork_diner::ForkDiner;
-use crate::fork_diner::feeding::feed_in_order;
-use crate::fork_diner::yielding::yield_to_all;
 use dining::Diner;
 use dining::Phase;
 use refusals::Refusal;
@@ -39,7 +37,7 @@ pub impl Diner for ForkDiner as ForkDining {
     fn hungry(&mut self, p: usize) -> Result<(), Refusal> {
         match self.phase(p)? {
             Phase::Thinking => {
-                self.phases[p] = Phase::Hungry;
+                self.become_hungry(p);
                 Ok(())
             }
             _ => Err(Refusal::WrongState),
@@ -49,8 +47,7 @@ pub impl Diner for ForkDiner as ForkDining {
     fn done(&mut self, p: usize) -> Result<(), Refusal> {
         match self.phase(p)? {
             Phase::Eating => {
-                yield_to_all(&mut self.precedes, &self.neighbourhood, p);
-                self.phases[p] = Phase::Thinking;
+                self.leave(p);
                 Ok(())
             }
             _ => Err(Refusal::WrongState),
@@ -58,6 +55,6 @@ pub impl Diner for ForkDiner as ForkDining {
     }
 
     fn turn(&mut self) {
-        feed_in_order(&self.neighbourhood, &self.precedes, &mut self.phases);
+        self.feed();
     }
 }

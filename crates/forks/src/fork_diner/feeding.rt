@@ -1,6 +1,6 @@
 // A turn of the fork diner, over the tables that it needs.
 ghost use mathlib.Core.Path.{_≡_};
-ghost use Prim.Native.Nat.{ℕ, _<_};
+ghost use Prim.Native.Nat.{ℕ, _<_, _≤_};
 ghost use lib.ListN.{length};
 ghost use Rattle.forks.specs.Forks.{forks-of, phase-at, blocks, may-eat, visited};
 use dining::Phase;
@@ -51,16 +51,18 @@ fn is_free_to_eat(
     }
 }
 
-// Visits the drinkers in number order and feeds, at once, each that may eat.
+// Visits the first n drinkers in number order and feeds, at once, each that may eat.
 pub(super) fn feed_in_order(
     neighbourhood: &Neighbourhood,
     precedes: &Relation,
     phases: &mut [Phase; 16],
+    n: usize,
 )
+    requires { ⌜ n ≤ 16 ⌝ }
     ensures places { λ _. ⌜ length (now (phases .exit)) ≡ 16 ⌝ }
-    ensures fed { λ _. ⌜ phase-at (now (phases .exit)) ≡ visited (forks-of (now (neighbourhood .entry)) (now (phases .entry)) (now (precedes .entry))) (now (neighbourhood .entry) .drinkers) ⌝ }
+    ensures fed { λ _. ⌜ phase-at (now (phases .exit)) ≡ visited (forks-of (now (neighbourhood .entry)) (now (phases .entry)) (now (precedes .entry))) n ⌝ }
 {
-    for p in 0..neighbourhood.drinkers() {
+    for p in 0..n {
         if is_free_to_eat(neighbourhood, precedes, phases, p) {
             phases[p] = Phase::Eating;
         }

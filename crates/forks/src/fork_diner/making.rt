@@ -1,6 +1,6 @@
 // How a fork diner is made from a graph.
 ghost use mathlib.Core.Path.{_≡_};
-ghost use mathlib.Core.Bool.{_&&_};
+ghost use mathlib.Core.Bool.{true, _&&_};
 ghost use Prim.Native.Nat.{ℕ};
 ghost use lib.Dec.{ltb};
 ghost use lib.ListN.{length};
@@ -9,12 +9,20 @@ ghost use Rattle.forks.specs.ForkDiners.{forks};
 ghost use Rattle.forks.specs.Upstream.{Upstream-is-by-chains};
 ghost use Rattle.graph.specs.Ends.{neighbours};
 ghost use Rattle.graph.specs.Graphs.{ends-of};
-ghost use Rattle.relations.specs.Related.{related};
+ghost use Rattle.relations.specs.Related.{related, Written};
 use crate::fork_diner::ForkDiner;
 use dining::Phase;
+use graph::Ends;
 use graph::Graph;
 use graph::Neighbourhood;
 use relations::Relation;
+
+// The lower end of a bottle precedes the higher.
+fn let_lower_precede(precedes: &mut Relation, ends: Ends)
+    ensures { λ _. ⌜ Written (now (precedes .entry)) (ends .lower) (ends .higher) true (now (precedes .exit)) ⌝ }
+{
+    precedes.write(ends.lower, ends.higher, true);
+}
 
 // Of each two neighbours the lower number precedes.
 fn lower_precedes(graph: &Graph) -> Relation
@@ -22,7 +30,7 @@ fn lower_precedes(graph: &Graph) -> Relation
 {
     let mut precedes = Relation::empty();
     for ends in graph.all_ends() {
-        precedes.write(ends.lower, ends.higher, true);
+        let_lower_precede(&mut precedes, *ends);
     }
     precedes
 }

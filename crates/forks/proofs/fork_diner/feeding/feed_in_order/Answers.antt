@@ -12,18 +12,10 @@ pub loop-p-again : need.loop-p-again
 loop-p-again c =
     let f = forks-of (c .args .neighbourhood .now) (c .args .phases .now) (c .args .precedes .now) in
     let p = c .loop-p .p in
-    let xs = c .loop-p .phases in (
-      c .if-is-free-to-eat .array-long,
-      elim (c .if-is-free-to-eat .came) [
-        | then-is-free-to-eat w ↦ ap phase-at (w .phases-is)
-            ∙ visited-fed f p xs (c .loop-p .inv .1) (c .is-free-to-eat .result) (c .is-free-to-eat .ensures) (w .if-is-free-to-eat .taken) (omega arith)
-        | else-is-free-to-eat w ↦ ap phase-at (w .phases-is)
-            ∙ visited-left f p xs (c .loop-p .inv .1) (c .is-free-to-eat .result) (c .is-free-to-eat .ensures) (w .if-is-free-to-eat .left)
-      ],
-    )
-
-pub returns : need.returns
-returns c =
-    let f = forks-of (c .args .neighbourhood .now) (c .args .phases .now) (c .args .precedes .now) in
-    let all : c .loop-p .p ≡ c .args .neighbourhood .now .drinkers = omega (arith, c .drinkers-p-end .ensures) in
-    record { places = c .loop-p .inv .0; fed = subst (λ n. phase-at (c .loop-p .phases) ≡ visited f n) all (c .loop-p .inv .1) }
+    let xs = c .loop-p .phases in
+    (c .if-is-free-to-eat .array-long, elim (c .if-is-free-to-eat .came) [
+      | then-is-free-to-eat w ↦ ap phase-at (w .phases-is)
+          ∙ visited-fed f p xs (c .loop-p .inv .1) (c .is-free-to-eat .result) (c .is-free-to-eat .ensures) (w .if-is-free-to-eat .taken) (omega arith)
+      | else-is-free-to-eat w ↦ ap phase-at (w .phases-is)
+          ∙ visited-left f p xs (c .loop-p .inv .1) (c .is-free-to-eat .result) (c .is-free-to-eat .ensures) (w .if-is-free-to-eat .left)
+    ])

@@ -1,10 +1,9 @@
 use mathlib.Core.Path.{_≡_, sym, ap, subst, _∙_}
 use mathlib.Core.Bool.{false}
 use native.Mathlib.Omega.{arith}
-use Rattle.dining.specs.Phases.{is-hungry}
 use Rattle.graph.specs.Counting.{any}
 use Rattle.forks.specs.Forks.{forks-of, phase-at, blocks}
-use Rattle.forks.proofs.Tables.{unblocked-none, unblocked-more, eats-if-unblocked, blocked-eats-not, others-eat-not}
+use Rattle.forks.proofs.Tables.{unblocked-none, unblocked-more, eats-if-unblocked, blocked-eats-not}
 use Rattle.forks.proofs.fork_diner.feeding.is_free_to_eat.Needs as need
 
 pub loop-q-holds : need.loop-q-holds
@@ -20,18 +19,7 @@ loop-q-again c =
     let f = forks-of (c .args .neighbourhood .now) (c .args .phases .now) (c .args .precedes .now) in
     unblocked-more f (c .args .p) (c .loop-q .q) (c .loop-q .inv) (sym (c .is-blocked-by .ensures) ∙ c .if-is-blocked-by .left)
 
-pub returns-in-Thinking : need.returns-in-Thinking
-unfolding is-hungry phase-at
-returns-in-Thinking c =
-    others-eat-not (forks-of (c .args .neighbourhood .now) (c .args .phases .now) (c .args .precedes .now)) (c .args .p) (ap is-hungry (c .in-Thinking .is))
-
-pub returns-in-Eating : need.returns-in-Eating
-unfolding is-hungry phase-at
-returns-in-Eating c =
-    others-eat-not (forks-of (c .args .neighbourhood .now) (c .args .phases .now) (c .args .precedes .now)) (c .args .p) (ap is-hungry (c .in-Eating .is))
-
 pub returns-after-loop-q : need.returns-after-loop-q
-unfolding phase-at
 returns-after-loop-q c =
     let f = forks-of (c .args .neighbourhood .now) (c .args .phases .now) (c .args .precedes .now) in
     let all : c .loop-q .q ≡ c .args .neighbourhood .now .drinkers = omega (arith, c .drinkers-q-end .ensures) in

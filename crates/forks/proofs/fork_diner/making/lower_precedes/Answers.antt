@@ -17,7 +17,7 @@ loop-ends-again c =
     let i = c .loop-ends .ends-index in
     let inside : i < length es = omega arith in
     let ordered = subst (Ends-ordered (g .drinkers)) (sym (c .all-ends-ends-items .ensures)) (g .ordered) i inside in
-    lower-more es i inside (ordered .0) (omega (arith, ordered .1)) (related (c .loop-ends .precedes)) (related (c .write .last .self)) (c .loop-ends .inv) (c .write .ensures)
+    lower-more es i inside (ordered .0) (omega (arith, ordered .1)) (related (c .loop-ends .precedes)) (related (c .let-lower-precede .last .precedes)) (c .loop-ends .inv) (c .let-lower-precede .ensures)
 
 pub returns : need.returns
 returns c p q =
