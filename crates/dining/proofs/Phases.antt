@@ -1,6 +1,6 @@
 -- Phases as tests: what a test tells of a phase, and what a change of one phase leaves.
 use mathlib.Core.Path.{_≡_, refl}
-use mathlib.Core.Bool.{Bool, true, false}
+use mathlib.Core.Bool.{true, false}
 use Prim.Native.Nat.{ℕ}
 use lib.Dec.{eqb}
 use Rattle.std.proofs.shelf.Tests.{both-ways, eq-eqb, ne-eqb, cond-true, cond-false}

@@ -4,7 +4,7 @@ use mathlib.Core.Path.{_≡_}
 use mathlib.Core.Bool.{Bool, true}
 use Prim.Native.Nat.{ℕ, _≤_, _<_}
 use Rattle.dining.specs.declared.phase.Phase.{Phase}
-use Rattle.dining.specs.declared.phase.Phase.the-variants.{Thinking, Hungry, Eating}
+use Rattle.dining.specs.declared.phase.Phase.the-variants.{Hungry, Eating}
 
 pub record Dining : Type 0 where
   -- how many drinkers there are; they are numbered from 0

@@ -1,22 +1,20 @@
 -- From a fork diner's tables to its model and back: every diner is orderly, and what a call writes is what the model has.
-use mathlib.Core.Path.{_≡_, refl, sym, ap, _∙_, fun-ext, subst}
-use mathlib.Core.Bool.{Bool, true, false, cond, _&&_, _||_}
+use mathlib.Core.Path.{_≡_, refl, sym, ap, _∙_, fun-ext}
+use mathlib.Core.Bool.{Bool, true, false, cond, _&&_}
 use mathlib.Core.List.{List}
-use Prim.Native.Nat.{ℕ, _+_, _≤_, _<_}
+use Prim.Native.Nat.{ℕ, _+_, _<_}
 use native.Mathlib.Omega.{arith}
 use lib.Dec.{eqb, ltb}
 use lib.ListN.{length, set}
 use Rattle.std.proofs.shelf.Ways.{tells}
 use Rattle.dining.specs.declared.phase.Phase.{Phase}
-use Rattle.dining.specs.declared.phase.Phase.the-variants.{Thinking, Hungry, Eating}
-use Rattle.dining.specs.Phases.{with-phase}
+use Rattle.dining.specs.declared.phase.Phase.the-variants.{Thinking, Hungry}
 use Rattle.graph.specs.declared.neighbourhood.Neighbourhood.{Neighbourhood}
 use Rattle.graph.specs.Neighbourhoods.{near}
-use Rattle.graph.specs.Counting.{total, number}
 use Rattle.relations.specs.declared.relation.Relation.{Relation}
 use Rattle.relations.specs.Related.{related, is-pair}
 use Rattle.forks.specs.declared.fork_diner.ForkDiner.{ForkDiner}
-use Rattle.forks.specs.Forks.{Forks, forks-of, phase-at, with-phases, after-hungry, behind, after-done}
+use Rattle.forks.specs.Forks.{forks-of, with-phases, after-hungry, behind, after-done}
 use Rattle.forks.specs.ForkDiners.{forks, Yields}
 use Rattle.forks.specs.Orderly.{Orderly}
 use Rattle.forks.specs.Waiting.{degree}
@@ -43,12 +41,6 @@ pub hungry-written : (s : Neighbourhood) (xs : List Phase) (r : Relation) (p : �
 hungry-written s xs r p l = ap (with-phases (forks-of s xs r)) (phase-written xs p Hungry l)
 
 -- `done` writes the pairs of p one by one, and p's phase.
-pub yields-none : (s : Neighbourhood) (r : Relation) (p : ℕ) → Yields s r p 0 r
-yields-none s r p a b = go (near s a p) (related r a b)
-  where
-    go : (x y : Bool) → y ≡ cond (eqb a p && ltb b 0) false (cond (eqb b p && ltb a 0) x y)
-    go x y = grind (arith, tells)
-
 module _ (s : Neighbourhood) (old sofar new : Relation) (p q : ℕ) (small : (p < 16) × (q < 16)) where
   pub yields-more : Yields s old p q sofar
       → ((a b : ℕ) → related new a b ≡ cond (is-pair q p a b) (near s q p) (cond (is-pair p q a b) false (related sofar a b)))

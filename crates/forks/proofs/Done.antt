@@ -1,16 +1,14 @@
 -- A drinker that ate is done: it comes behind all its neighbours, the diner stays orderly, and whoever it held has less ahead.
-use mathlib.Core.Path.{_≡_, refl, sym, _∙_}
+use mathlib.Core.Path.{_≡_, refl}
 use mathlib.Core.Bool.{Bool, true, false, cond, _&&_, _||_}
 use mathlib.Core.Logic.{_⊎_, inl, inr, ⊎-elim, ∥∥₁-map}
-use Prim.Native.Nat.{ℕ, _+_, _-_, _≤_, _<_}
+use Prim.Native.Nat.{ℕ, _-_, _≤_, _<_}
 use native.Mathlib.Omega.{arith}
 use lib.Dec.{eqb, ltb}
 use Rattle.std.proofs.shelf.Tests.{cases-bool, cases-lt, and-from, and-right}
 use Rattle.std.proofs.shelf.Ways.{tells}
-use Rattle.dining.specs.declared.phase.Phase.{Phase}
 use Rattle.dining.specs.declared.phase.Phase.the-variants.{Thinking, Hungry, Eating}
-use Rattle.dining.specs.Dining.{Dining, Is-in}
-use Rattle.dining.specs.Laws.{Goes-on, Lawful-done}
+use Rattle.dining.specs.Laws.{Lawful-done}
 use Rattle.dining.specs.Phases.{is-eating, with-phase}
 use Rattle.dining.proofs.Phases.{phase-here, phase-elsewhere, test-from-eating}
 use Rattle.graph.proofs.Counting.{number-le, number-lt, sum-le, sum-lt}

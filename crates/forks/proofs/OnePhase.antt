@@ -1,19 +1,16 @@
 -- One drinker changes its phase: to hungry from thinking, or to eating when nobody keeps it from that. No share rises.
 use mathlib.Core.Path.{_≡_, refl}
-use mathlib.Core.Bool.{Bool, true, false, not, _&&_, _||_}
+use mathlib.Core.Bool.{true, _&&_}
 use mathlib.Core.Logic.{_⊎_, inl, inr, ⊎-elim}
 use Prim.Native.Nat.{ℕ, _≤_, _<_}
 use native.Mathlib.Omega.{arith}
-use lib.Dec.{eqb}
 use Rattle.std.proofs.shelf.Tests.{cases-eq, and-parts, and-from, or-left, or-right, not-true}
 use Rattle.std.proofs.shelf.Ways.{tells}
 use Rattle.dining.specs.declared.phase.Phase.{Phase}
 use Rattle.dining.specs.declared.phase.Phase.the-variants.{Thinking, Hungry, Eating}
-use Rattle.dining.specs.Dining.{Dining}
 use Rattle.dining.specs.Laws.{Goes-on, Lawful-hungry}
 use Rattle.dining.specs.Phases.{is-hungry, is-eating, with-phase}
 use Rattle.dining.proofs.Phases.{phase-here, phase-elsewhere, eating-from-test, test-from-eating, hungry-from-test, test-from-hungry}
-use Rattle.graph.specs.Counting.{any}
 use Rattle.graph.proofs.Counting.{number-le, sum-le, any-none}
 use Rattle.forks.specs.Forks.{Forks, with-phases, after-hungry, blocks, may-eat}
 use Rattle.forks.specs.Orderly.{Orderly}

@@ -1,19 +1,18 @@
 -- The start: all think and the lower number precedes, which is orderly, as every graph keeps its rules.
 use mathlib.Core.Path.{_≡_, refl, sym, ap, _∙_, fun-ext}
-use mathlib.Core.Bool.{Bool, true, false, cond, _&&_, _||_}
-use mathlib.Core.List.{List, [], _∷_, _++_}
-use Prim.Native.Nat.{ℕ, zero, suc, _+_, _≤_, _<_}
+use mathlib.Core.Bool.{Bool, true, cond, _&&_, _||_}
+use mathlib.Core.List.{List}
+use Prim.Native.Nat.{ℕ, zero, suc, _+_, _<_}
 use native.Mathlib.Omega.{arith}
-use lib.Dec.{eqb, ltb}
+use lib.Dec.{ltb}
 use lib.ListN.{length, getD, take, replicate}
 use Rattle.std.proofs.shelf.Lists.{take-more, length-take-le}
 use Rattle.std.proofs.shelf.Tests.{and-parts}
 use Rattle.std.proofs.shelf.Ways.{tells}
-use Rattle.dining.specs.declared.phase.Phase.{Phase}
-use Rattle.dining.specs.declared.phase.Phase.the-variants.{Thinking, Hungry, Eating}
+use Rattle.dining.specs.declared.phase.Phase.the-variants.{Thinking}
 use Rattle.graph.specs.declared.ends.Ends.{Ends}
 use Rattle.graph.specs.declared.graph.Graph.{Graph}
-use Rattle.graph.specs.Counting.{total, number}
+use Rattle.graph.specs.Counting.{number}
 use Rattle.graph.specs.Ends.{between, end-at, joins, neighbours}
 use Rattle.graph.specs.Graphs.{ends-of}
 use Rattle.graph.specs.declared.neighbourhood.Neighbourhood.{Neighbourhood}

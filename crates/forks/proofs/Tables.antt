@@ -1,19 +1,16 @@
 -- What the tables of a fork diner hold: the phases after a write, who keeps whom from eating, and the phases after each visit.
 use mathlib.Core.Path.{_≡_, refl, sym, ap, _∙_, fun-ext}
-use mathlib.Core.Bool.{Bool, true, false, not, cond, _&&_, _||_}
+use mathlib.Core.Bool.{Bool, true, false}
 use mathlib.Core.List.{List}
 use mathlib.Core.Logic.{_⊎_, ⊎-elim}
-use Prim.Native.Nat.{ℕ, _+_, _≤_, _<_}
-use native.Mathlib.Omega.{arith}
+use Prim.Native.Nat.{ℕ, _+_, _<_}
 use native.Mathlib.Numerals.{add-one}
-use lib.Dec.{eqb, ltb}
 use lib.ListN.{length, set}
 use Rattle.std.proofs.shelf.Lists.{getD-set-same, getD-set-other}
-use Rattle.std.proofs.shelf.Tests.{cases-eq, and-left, and-right, or-from, not-from-true}
-use Rattle.std.proofs.shelf.Ways.{tells}
+use Rattle.std.proofs.shelf.Tests.{cases-eq, and-right, or-from, not-from-true}
 use Rattle.dining.specs.declared.phase.Phase.{Phase}
 use Rattle.dining.specs.declared.phase.Phase.the-variants.{Thinking, Hungry, Eating}
-use Rattle.dining.specs.Phases.{is-hungry, is-eating, with-phase}
+use Rattle.dining.specs.Phases.{is-hungry, with-phase}
 use Rattle.dining.proofs.Phases.{phase-here, phase-elsewhere}
 use Rattle.graph.specs.Counting.{any}
 use Rattle.graph.proofs.Counting.{any-from}
@@ -28,27 +25,6 @@ phase-written xs p x l = fun-ext (λ j. ⊎-elim
 
 -- Who keeps p from eating, by the phase of the other.
 module _ (f : Forks) (p : ℕ) where
-  pub thinking-blocks-not : (q : ℕ) → f .phase q ≡ Thinking → blocks f p q ≡ false
-  thinking-blocks-not q e = rw e (or-from (f .neighbours p q && false) _ (and-right (f .neighbours p q) _ refl) (and-right (f .precedes q p) _ refl))
-
-  pub hungry-blocks : (q : ℕ) → f .phase q ≡ Hungry → blocks f p q ≡ f .precedes q p
-  hungry-blocks q e = rw e (go (f .neighbours p q) (f .precedes q p))
-    where
-      go : (a b : Bool) → ((a && false) || (b && true)) ≡ b
-      go true true = refl
-      go true false = refl
-      go false true = refl
-      go false false = refl
-
-  pub eating-blocks : (q : ℕ) → f .phase q ≡ Eating → blocks f p q ≡ f .neighbours p q
-  eating-blocks q e = rw e (go (f .neighbours p q) (f .precedes q p))
-    where
-      go : (a b : Bool) → ((a && true) || (b && false)) ≡ a
-      go true true = refl
-      go true false = refl
-      go false true = refl
-      go false false = refl
-
   -- The loop over the others.
   pub unblocked-none : any (blocks f p) 0 ≡ false
   unfolding any
@@ -63,9 +39,6 @@ module _ (f : Forks) (p : ℕ) where
 
   pub blocked-eats-not : (q : ℕ) → q < f .drinkers → blocks f p q ≡ true → false ≡ may-eat f p
   blocked-eats-not q l b = sym (and-right (is-hungry (f .phase p)) _ (not-from-true _ (any-from (blocks f p) (f .drinkers) q l b)))
-
-  pub others-eat-not : is-hungry (f .phase p) ≡ false → false ≡ may-eat f p
-  others-eat-not e = sym (and-left (is-hungry (f .phase p)) _ e)
 
 -- The loop of a turn: the phases after the visits of those below q, and one visit more.
 pub visited-none : (f : Forks) → f .phase ≡ visited f 0

@@ -1,12 +1,12 @@
 -- A turn: drinkers are visited one after the other, and in the end each that is still hungry has a holder.
-use mathlib.Core.Path.{_≡_, refl, sym, _∙_}
-use mathlib.Core.Bool.{Bool, true, false, not, _&&_, _||_, Bool-set}
+use mathlib.Core.Path.{_≡_, refl, _∙_}
+use mathlib.Core.Bool.{Bool, true, false, _&&_, Bool-set}
 use mathlib.Core.Logic.{_⊎_, inl, inr, ⊎-elim, ∥∥₁-elim}
-use Prim.Native.Nat.{ℕ, zero, suc, _+_, _≤_, _<_}
+use Prim.Native.Nat.{ℕ, zero, suc, _<_}
 use native.Mathlib.Omega.{arith}
-use Rattle.std.proofs.shelf.Tests.{both-ways, cases-bool, cases-eq, and-parts, and-cases, or-cases, not-false}
+use Rattle.std.proofs.shelf.Tests.{both-ways, cases-eq, and-parts, and-cases, or-cases, not-false}
 use Rattle.dining.specs.declared.phase.Phase.{Phase}
-use Rattle.dining.specs.declared.phase.Phase.the-variants.{Thinking, Hungry, Eating}
+use Rattle.dining.specs.declared.phase.Phase.the-variants.{Hungry, Eating}
 use Rattle.dining.specs.Dining.{Dining, Is-in, Holds, Lawful}
 use Rattle.dining.specs.Laws.{Goes-on, Lawful-turn}
 use Rattle.dining.specs.Phases.{is-hungry, is-eating, with-phase}
@@ -19,7 +19,7 @@ use Rattle.forks.specs.Upstream.{upstream}
 use Rattle.forks.specs.Waiting.{holder, dining}
 use Rattle.forks.proofs.OnePhase.{fed-was-hungry, orderly-fed, fed-goes-on}
 use Rattle.forks.proofs.Upstream.{upstream-self, upstream-step, upstream-inside}
-use Rattle.forks.proofs.Waiting.{holder-from, holder-inside, holder-gives, lawful}
+use Rattle.forks.proofs.Waiting.{holder-from, holder-inside, lawful}
 
 -- Feeding, step by step: some of the hungry eat, and every wait goes on.
 record Feeds (d e : Dining) : Type 0 where

@@ -1,12 +1,11 @@
 -- Who is upstream of a drinker: the test goes on along "precedes", stays among the drinkers, and is the words' own closure.
 use mathlib.Core.Path.{_≡_, refl}
-use mathlib.Core.Bool.{Bool, true, false, _&&_, _||_, Bool-set}
+use mathlib.Core.Bool.{Bool, true, Bool-set}
 use mathlib.Core.Logic.{_⊎_, ⊎-elim, ∥∥₁-elim}
 use Prim.Native.Nat.{ℕ, zero, suc, _+_, _≤_, _<_}
 use native.Mathlib.Omega.{arith}
 use lib.Dec.{eqb}
 use Rattle.std.proofs.shelf.Tests.{or-left, or-right, or-cases, and-from, and-parts, eq-eqb, eqb-true}
-use Rattle.graph.specs.Counting.{any}
 use Rattle.forks.specs.Forks.{Forks}
 use Rattle.forks.specs.Orderly.{Orderly, Ranked}
 use Rattle.forks.specs.Upstream.{leads, upstream, Chain, here, step, Upstream-is-by-chains}

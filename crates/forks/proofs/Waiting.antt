@@ -1,16 +1,15 @@
 -- What holds of an orderly fork diner between calls: shares, aheads and holders.
 use mathlib.Core.Path.{_≡_, refl}
-use mathlib.Core.Bool.{Bool, true, false, cond, _&&_, _||_}
+use mathlib.Core.Bool.{Bool, true, false, cond, _&&_}
 use mathlib.Core.Logic.{_⊎_, inl, inr, ⊎-elim}
-use Prim.Native.Nat.{ℕ, _+_, _*_, _≤_, _<_}
+use Prim.Native.Nat.{ℕ, _+_, _≤_, _<_}
 use native.Mathlib.Omega.{arith}
 use Rattle.std.proofs.shelf.Tests.{or-left, or-right, or-cases, and-from, and-parts}
 use Rattle.dining.specs.declared.phase.Phase.{Phase}
 use Rattle.dining.specs.declared.phase.Phase.the-variants.{Thinking, Hungry, Eating}
-use Rattle.dining.specs.Dining.{Dining, Lawful}
+use Rattle.dining.specs.Dining.{Lawful}
 use Rattle.dining.specs.Phases.{is-hungry, is-eating}
 use Rattle.dining.proofs.Phases.{eating-from-test, test-from-eating, hungry-from-test, test-from-hungry}
-use Rattle.graph.specs.Counting.{total, any}
 use Rattle.graph.proofs.Counting.{total-at, total-one-more, number-le, any-from, any-gives}
 use Rattle.forks.specs.Forks.{Forks}
 use Rattle.forks.specs.Orderly.{Orderly}

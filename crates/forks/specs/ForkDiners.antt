@@ -1,6 +1,6 @@
 -- The fork diner that the code has, by its model: what it means, and exactly what each of its calls does.
 use mathlib.Core.Path.{_≡_}
-use mathlib.Core.Bool.{Bool, false, cond, _&&_}
+use mathlib.Core.Bool.{false, cond, _&&_}
 use Prim.Native.Nat.{ℕ}
 use lib.Dec.{eqb, ltb}
 use Rattle.dining.specs.Dining.{Dining}

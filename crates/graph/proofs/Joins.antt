@@ -1,14 +1,14 @@
 -- One bottle more: the list of ends keeps its rules, and so do the set of a drinker's bottles and the table of neighbours.
-use mathlib.Core.Path.{_≡_, refl, sym, ap, _∙_, subst}
+use mathlib.Core.Path.{_≡_, refl, sym, ap, _∙_}
 use mathlib.Core.Bool.{Bool, true, false, cond, _&&_, _||_}
 use mathlib.Core.List.{List, [], _∷_, _++_}
 use mathlib.Core.Logic.{_⊎_, ⊎-elim}
 use Prim.Native.Nat.{ℕ, _+_, _<_, _≤_}
 use native.Mathlib.Omega.{arith}
 use lib.Dec.{eqb, ltb}
-use lib.ListN.{length, getD, take}
+use lib.ListN.{length, take}
 use Rattle.std.proofs.shelf.Lists.{take-more, getD-push, getD-append-left, length-push}
-use Rattle.std.proofs.shelf.Tests.{cases-eq, cases-lt, eq-eqb, both-ways}
+use Rattle.std.proofs.shelf.Tests.{cases-eq, cases-lt, eq-eqb}
 use Rattle.std.proofs.shelf.Ways.{tells}
 use Rattle.graph.specs.declared.ends.Ends.{Ends}
 use Rattle.graph.specs.Ends.{between, end-at, joins, touches, neighbours, is-end, Ends-ordered, Pairs-once}
@@ -64,18 +64,6 @@ module _ (es : List Ends) (p i : ℕ) (l : i < length es) (within : ℕ → Bool
     where
       go : (b : ℕ) (x : Bool) → (b ≡ i → x ≡ false) → ((ltb b (length es) && x) && ltb b i) ≡ ((ltb b (length es) && x) && ltb b (i + 1))
       go b x h = grind (arith, tells)
-
-pub shared-none : (es : List Ends) (p : ℕ) (within : ℕ → Bool) → ((b : ℕ) → within b ≡ false) → Shared-below es p 0 within
-shared-none es p within h b = h b ∙ go (is-end es p b)
-  where
-    go : (x : Bool) → false ≡ (x && ltb b 0)
-    go x = grind (arith, tells)
-
-pub shared-all : (es : List Ends) (p i : ℕ) (within : ℕ → Bool) → length es ≤ i → Shared-below es p i within → (b : ℕ) → within b ≡ is-end es p b
-shared-all es p i within l S b = S b ∙ go (touches (end-at es b) p)
-  where
-    go : (x : Bool) → ((ltb b (length es) && x) && ltb b i) ≡ (ltb b (length es) && x)
-    go x = grind (arith, tells)
 
 -- The table of neighbours, one bottle more.
 pub related-both-ways : (u v p q : ℕ) → u < 16 → v < 16 → (old middle new : Bool)

@@ -1,20 +1,19 @@
 -- Lists of entries: what an entry says of its drinker's phase, and that there are never more entries than drinkers.
-use mathlib.Core.Path.{_≡_, refl, sym, ap, _∙_}
+use mathlib.Core.Path.{_≡_, refl}
 use mathlib.Core.Bool.{Bool, true, false, not, cond, _&&_, _||_}
-use mathlib.Core.List.{List, [], _∷_, _++_}
-use mathlib.Core.Logic.{_⊎_, inl, inr, ⊎-elim}
-use Prim.Native.Nat.{ℕ, zero, suc, _+_, _-_, _≤_, _<_}
+use mathlib.Core.List.{List, [], _∷_}
+use mathlib.Core.Logic.{_⊎_, ⊎-elim}
+use Prim.Native.Nat.{ℕ, _-_, _≤_, _<_}
 use native.Mathlib.Omega.{arith}
 use lib.Dec.{eqb, ltb}
 use lib.ListN.{length}
-use Rattle.std.proofs.shelf.Tests.{both-ways, and-parts, cases-bool, cases-eq, eqb-true, eqb-false, or-left, or-right, or-parts, ltb-true, not-true}
+use Rattle.std.proofs.shelf.Tests.{both-ways, and-parts, cases-bool, or-parts, ltb-true, not-true}
 use Rattle.std.proofs.shelf.Ways.{tells}
-use Rattle.dining.specs.declared.phase.Phase.{Phase}
 use Rattle.dining.specs.declared.phase.Phase.the-variants.{Thinking, Hungry, Eating}
 use Rattle.graph.specs.Counting.{number}
 use Rattle.graph.proofs.Counting.{number-le, number-most, number-more}
 use Rattle.queueing.specs.declared.entry.Entry.{Entry}
-use Rattle.queueing.specs.Queue.{phase-in, ahead-in, holder-in}
+use Rattle.queueing.specs.Queue.{phase-in, ahead-in}
 use Rattle.queueing.specs.Orderly.{has-entry, eating-neighbour, orderly}
 
 -- The parts of a queue that is orderly.
@@ -76,15 +75,8 @@ entries-counted near n (e ∷ es) o =
     swapped : (i : ℕ) → (eqb i (e .drinker) || has-entry es i) ≡ true → (eqb (e .drinker) i || has-entry es i) ≡ true
     swapped i h = grind (arith, tells)
 
-pub few-entries : (near : ℕ → ℕ → Bool) (n : ℕ) (es : List Entry) → orderly near n es ≡ true → length es ≤ n
-few-entries near n es o = omega (arith, entries-counted near n es o, number-most (has-entry es) n)
-
 -- one more has room, if it is a drinker and not in the queue
 pub room-for-one : (near : ℕ → ℕ → Bool) (n : ℕ) (es : List Entry) → orderly near n es ≡ true → (p : ℕ) → p < n → has-entry es p ≡ false → length es < n
 room-for-one near n es o p l h =
     let more = number-more (has-entry es) n p l h in
     omega (arith, entries-counted near n es o, more, number-most (λ i. eqb i p || has-entry es i) n)
-
-pub ahead-short : (es : List Entry) (p : ℕ) → has-entry es p ≡ true → ahead-in es p < length es
-ahead-short [] p h = absurd (both-ways false refl h)
-ahead-short (e ∷ es) p h = let rest = ahead-short es p in grind (arith, tells, rest)

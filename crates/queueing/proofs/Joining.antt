@@ -1,22 +1,20 @@
 -- A thinking drinker becomes hungry: it joins the queue at its end, and nobody else's place changes.
 use mathlib.Core.Path.{_≡_, refl, sym, ap, _∙_}
-use mathlib.Core.Bool.{Bool, true, false, not, cond, _&&_, _||_}
+use mathlib.Core.Bool.{Bool, true, false, cond, _&&_, _||_}
 use mathlib.Core.List.{List, [], _∷_, _++_}
-use mathlib.Core.Logic.{_⊎_, inl, inr, ⊎-elim}
-use Prim.Native.Nat.{ℕ, _+_, _-_, _≤_, _<_}
+use mathlib.Core.Logic.{_⊎_, inr, ⊎-elim}
+use Prim.Native.Nat.{ℕ, _+_, _-_, _<_}
 use native.Mathlib.Omega.{arith}
-use lib.Dec.{eqb, ltb}
+use lib.Dec.{eqb}
 use lib.ListN.{length}
 use Rattle.std.proofs.shelf.Tests.{both-ways, cases-bool, or-parts, eq-eqb, ne-eqb}
 use Rattle.std.proofs.shelf.Ways.{tells}
-use Rattle.dining.specs.declared.phase.Phase.{Phase}
 use Rattle.dining.specs.declared.phase.Phase.the-variants.{Thinking, Hungry, Eating}
-use Rattle.dining.specs.Dining.{Dining}
 use Rattle.dining.specs.Laws.{Lawful-hungry}
 use Rattle.queueing.specs.declared.entry.Entry.{Entry}
 use Rattle.queueing.specs.Queue.{Queue, dining, after-hungry, hungry-entry, phase-in, ahead-in, holder-in}
 use Rattle.queueing.specs.Orderly.{has-entry, eating-neighbour, orderly}
-use Rattle.queueing.proofs.Entries.{Parts, parts, whole, no-entry-where-thinking, entry-where-not-thinking, room-for-one}
+use Rattle.queueing.proofs.Entries.{parts, whole, no-entry-where-thinking, entry-where-not-thinking, room-for-one}
 
 module _ (p : ℕ) where
   joined : List Entry → List Entry

@@ -1,21 +1,18 @@
 -- A drinker that ate is done: its entry is taken out, and those behind it have one less ahead.
 use mathlib.Core.Path.{_≡_, refl, sym, ap, _∙_}
-use mathlib.Core.Bool.{Bool, true, false, not, cond, _&&_, _||_}
+use mathlib.Core.Bool.{Bool, true, false, cond, _&&_}
 use mathlib.Core.List.{List, [], _∷_}
-use mathlib.Core.Logic.{_⊎_, inl, inr, ⊎-elim}
+use mathlib.Core.Logic.{_⊎_, inr, ⊎-elim}
 use Prim.Native.Nat.{ℕ, _+_, _≤_, _<_}
 use native.Mathlib.Omega.{arith}
-use lib.Dec.{eqb, ltb}
-use Rattle.std.proofs.shelf.Tests.{both-ways, cases-bool, or-cases, or-parts, or-left, or-right, or-from, and-parts, eqb-true, eqb-false, eq-eqb, ne-eqb}
-use Rattle.std.proofs.shelf.Ways.{tells}
-use Rattle.dining.specs.declared.phase.Phase.{Phase}
+use lib.Dec.{eqb}
+use Rattle.std.proofs.shelf.Tests.{both-ways, cases-bool, or-cases, or-parts, or-left, or-right, or-from, eqb-true, ne-eqb}
 use Rattle.dining.specs.declared.phase.Phase.the-variants.{Thinking, Hungry, Eating}
-use Rattle.dining.specs.Dining.{Dining}
 use Rattle.dining.specs.Laws.{Lawful-done}
 use Rattle.queueing.specs.declared.entry.Entry.{Entry}
 use Rattle.queueing.specs.Queue.{Queue, dining, after-done, without, phase-in, ahead-in, holder-in}
 use Rattle.queueing.specs.Orderly.{has-entry, eating-neighbour, orderly}
-use Rattle.queueing.proofs.Entries.{Parts, parts, whole}
+use Rattle.queueing.proofs.Entries.{parts, whole}
 
 module _ (p : ℕ) where
   phase-of-gone : (es : List Entry) → phase-in (without es p) p ≡ Thinking

@@ -1,16 +1,15 @@
 -- The loops over the entries, one step on: the search for a drinker, for an earlier neighbour, the removal, and the feeding.
 use mathlib.Core.Path.{_≡_, refl, sym, ap, _∙_}
-use mathlib.Core.Bool.{Bool, true, false, not, cond, _&&_, _||_}
+use mathlib.Core.Bool.{Bool, true, false, not, cond, _||_}
 use mathlib.Core.List.{List, [], _∷_, _++_}
 use mathlib.Core.Logic.{⊎-elim}
 use Prim.Native.Nat.{ℕ, zero, suc, _+_, _≤_, _<_}
 use native.Mathlib.Omega.{arith}
 use lib.Dec.{eqb}
 use lib.ListN.{length, getD, set, take, drop}
-use Rattle.std.proofs.shelf.Lists.{append-nil, append-assoc, take-more, take-more-set, drop-more, drop-set-lt, getD-drop, getD-set-same}
+use Rattle.std.proofs.shelf.Lists.{append-nil, append-assoc, take-more, take-more-set, drop-more, drop-set-lt, getD-drop}
 use Rattle.std.proofs.shelf.Tests.{cases-bool, or-left, or-right, or-from}
-use Rattle.dining.specs.declared.phase.Phase.{Phase}
-use Rattle.dining.specs.declared.phase.Phase.the-variants.{Thinking, Hungry, Eating}
+use Rattle.dining.specs.declared.phase.Phase.the-variants.{Hungry, Eating}
 use Rattle.queueing.specs.declared.entry.Entry.{Entry}
 use Rattle.queueing.specs.Queue.{phase-in, without, has-neighbour, feed, fed, no-entry}
 use Rattle.queueing.proofs.Turning.{neighbour-push}

@@ -1,20 +1,19 @@
 -- What holds of an orderly queue between calls.
 use mathlib.Core.Path.{_≡_, refl, sym, ap, _∙_}
-use mathlib.Core.Bool.{Bool, true, false, not, cond, _&&_, _||_}
+use mathlib.Core.Bool.{Bool, true, false, cond, _&&_}
 use mathlib.Core.List.{List, [], _∷_}
-use mathlib.Core.Logic.{_⊎_, inl, inr, ⊎-elim}
-use Prim.Native.Nat.{ℕ, _+_, _-_, _≤_, _<_}
+use mathlib.Core.Logic.{_⊎_, ⊎-elim}
+use Prim.Native.Nat.{ℕ, _-_, _≤_, _<_}
 use native.Mathlib.Omega.{arith}
-use lib.Dec.{eqb, ltb}
-use Rattle.std.proofs.shelf.Tests.{both-ways, cases-bool, cases-eq, eqb-true, eqb-false, and-from, and-parts, or-left, or-right, or-cases, eq-eqb, ne-eqb}
+use lib.Dec.{eqb}
+use Rattle.std.proofs.shelf.Tests.{both-ways, cases-bool, cases-eq, and-from, and-parts, or-left, or-right, or-cases, eq-eqb, ne-eqb}
 use Rattle.std.proofs.shelf.Ways.{tells}
-use Rattle.dining.specs.declared.phase.Phase.{Phase}
-use Rattle.dining.specs.declared.phase.Phase.the-variants.{Thinking, Hungry, Eating}
-use Rattle.dining.specs.Dining.{Dining, Lawful}
+use Rattle.dining.specs.declared.phase.Phase.the-variants.{Hungry, Eating}
+use Rattle.dining.specs.Dining.{Lawful}
 use Rattle.queueing.specs.declared.entry.Entry.{Entry}
-use Rattle.queueing.specs.Queue.{Queue, dining, phase-in, ahead-in, holder-in}
+use Rattle.queueing.specs.Queue.{dining, phase-in, ahead-in, holder-in}
 use Rattle.queueing.specs.Orderly.{has-entry, eating-neighbour, orderly}
-use Rattle.queueing.proofs.Entries.{Parts, parts, known-entry, entry-where-not-thinking}
+use Rattle.queueing.proofs.Entries.{parts, known-entry, entry-where-not-thinking}
 
 -- an entry that eats beside p
 pub eating-neighbour-from : (near : ℕ → ℕ → Bool) (p q : ℕ) (es : List Entry) → near p q ≡ true → phase-in es q ≡ Eating → eating-neighbour near p es ≡ true

@@ -1,21 +1,19 @@
 -- A turn: entries are fed in their places, so nobody's ahead changes, and the first in the queue always eats.
-use mathlib.Core.Path.{_≡_, refl, sym, ap, _∙_}
+use mathlib.Core.Path.{_≡_, refl, ap, _∙_}
 use mathlib.Core.Bool.{Bool, true, false, not, cond, _&&_, _||_}
 use mathlib.Core.List.{List, [], _∷_, _++_}
 use mathlib.Core.Logic.{_⊎_, inl, inr, ⊎-elim}
-use Prim.Native.Nat.{ℕ, _+_, _≤_, _<_}
+use Prim.Native.Nat.{ℕ, _+_}
 use native.Mathlib.Omega.{arith}
-use lib.Dec.{eqb, ltb}
-use Rattle.std.proofs.shelf.Tests.{both-ways, cases-bool, or-cases, or-parts, or-left, or-right, or-from, and-parts, and-from, and-left, and-right, eqb-true, eq-eqb, ne-eqb, not-true}
+use lib.Dec.{eqb}
+use Rattle.std.proofs.shelf.Tests.{both-ways, cases-bool, or-cases, or-parts, or-left, or-right, or-from, and-parts, and-from, eq-eqb}
 use Rattle.std.proofs.shelf.Ways.{tells}
-use Rattle.dining.specs.declared.phase.Phase.{Phase}
-use Rattle.dining.specs.declared.phase.Phase.the-variants.{Thinking, Hungry, Eating}
-use Rattle.dining.specs.Dining.{Dining}
+use Rattle.dining.specs.declared.phase.Phase.the-variants.{Hungry, Eating}
 use Rattle.dining.specs.Laws.{Lawful-turn}
 use Rattle.queueing.specs.declared.entry.Entry.{Entry}
 use Rattle.queueing.specs.Queue.{Queue, dining, after-turn, has-neighbour, feed, fed, phase-in, ahead-in, holder-in}
 use Rattle.queueing.specs.Orderly.{has-entry, eating-neighbour, orderly}
-use Rattle.queueing.proofs.Entries.{Parts, parts, whole}
+use Rattle.queueing.proofs.Entries.{parts, whole}
 
 module _ (near : ℕ → ℕ → Bool) where
   -- Places stay.

@@ -1,6 +1,6 @@
 -- The queue diner as a model: the hungry and the eating, in the order in which they became hungry.
 -- How it starts, what each call makes of it, and what it means.
-use mathlib.Core.Bool.{Bool, true, false, not, cond, _&&_, _||_}
+use mathlib.Core.Bool.{Bool, false, not, cond, _&&_, _||_}
 use mathlib.Core.List.{List, [], _∷_, _++_}
 use Prim.Native.Nat.{ℕ, _+_, _-_}
 use lib.Dec.{eqb}

@@ -9,9 +9,10 @@ use crate::entry::Entry;
 use graph::Neighbourhood;
 
 pub mod calls;
-pub mod feeding;
+mod changes;
+mod feeding;
 pub mod making;
-pub mod places;
+mod places;
 
 #[derive(Clone, Copy)]
 pub struct QueueDiner {

@@ -1,15 +1,14 @@
 -- The bits of a word: of a union, of what two words share, of one bit alone, and that a word is known by its bits.
 use mathlib.Core.Path.{_≡_, refl, sym, ap, _∙_}
-use mathlib.Core.Bool.{Bool, true, false, _||_, _&&_}
+use mathlib.Core.Bool.{true, false, _||_, _&&_}
 use mathlib.Core.Logic.{⊎-elim}
 use Prim.Native.Nat.{ℕ, zero, suc, _+_, _-_, _*_, _/_, _%_, _^_, _<_, _≤_, min}
 use native.Mathlib.Omega.{arith}
-use native.Mathlib.Nat.{one-mul, zero-add, div-eq-of-lt, div-eq-of-lt-le}
-use lib.Dec.{eqb, ltb}
+use native.Mathlib.Nat.{one-mul, div-eq-of-lt, div-eq-of-lt-le}
+use lib.Dec.{eqb}
 use lib.Bits.{bitOr, bitAnd, shifted-even, and-step, and-zero-l}
-use Rattle.std.proofs.shelf.Bits.{one-shl, or-shr, or-mod, and-shr, and-mod, shl-shr, shr-shr, pow-add, pow-below, pow-pos, shr-below, leading-top}
-use Rattle.std.proofs.shelf.Tests.{eq-eqb, eqb-true, ne-eqb, cases-order, cases-lt, and-parts, and-from, lt-ltb}
-use Rattle.std.proofs.shelf.Ways.{tells}
+use Rattle.std.proofs.shelf.Bits.{or-shr, or-mod, and-shr, and-mod, shl-shr, shr-shr, pow-add, pow-below, leading-top}
+use Rattle.std.proofs.shelf.Tests.{eq-eqb, eqb-true, ne-eqb, cases-order, and-parts}
 use Rattle.sets.specs.Members.{bit-of}
 
 or-digit : (u v : ℕ) → u < 2 → v < 2 → eqb (bitOr u v) 1 ≡ (eqb u 1 || eqb v 1)

@@ -18,9 +18,9 @@ pub impl Diner for ForkDiner as ForkDining {
         self.neighbourhood.drinkers()
     }
 
-    // As many as the drinkers, and twice the bottles.
+    // Twice the bottles, and one for each drinker.
     fn cap(&self) -> usize {
-        self.neighbourhood.drinkers() + 2 * self.neighbourhood.bottles()
+        2 * self.neighbourhood.bottles() + self.neighbourhood.drinkers()
     }
 
     fn neighbours(&self, p: usize, q: usize) -> bool {

@@ -22,8 +22,8 @@ impl ForkDiner {
         requires { ⌜ Is-in (meaning (now self)) Eating p ⌝ }
         ensures { λ _. ⌜ leave-of (now (self .entry)) p (now (self .exit)) ⌝ }
     {
-        let all = self.neighbourhood.drinkers();
-        yield_to_all(&mut self.precedes, &self.neighbourhood, p, all);
+        let count = self.neighbourhood.drinkers();
+        yield_to_all(&mut self.precedes, &self.neighbourhood, p, count);
         self.phases[p] = Phase::Thinking;
     }
 

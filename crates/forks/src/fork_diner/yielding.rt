@@ -17,7 +17,12 @@ fn yield_to_one(precedes: &mut Relation, neighbourhood: &Neighbourhood, p: usize
 }
 
 // From now on p precedes none of the first n drinkers, and those that are its neighbours precede it.
-pub(super) fn yield_to_all(precedes: &mut Relation, neighbourhood: &Neighbourhood, p: usize, n: usize)
+pub(super) fn yield_to_all(
+    precedes: &mut Relation,
+    neighbourhood: &Neighbourhood,
+    p: usize,
+    n: usize,
+)
     requires { ⌜ p < 16 ⌝ ∗ ⌜ n ≤ 16 ⌝ }
     ensures { λ _. ⌜ Yields (now (neighbourhood .entry)) (now (precedes .entry)) p n (now (precedes .exit)) ⌝ }
 {

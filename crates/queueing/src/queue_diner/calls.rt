@@ -1,10 +1,7 @@
 // The queue diner behind the interface.
 ghost use Rattle.queueing.specs.QueueDiners.{meaning, hunger-of, leave-of, turn-of};
-use crate::entry::Entry;
 use crate::queue_diner::QueueDiner;
-use crate::queue_diner::feeding::feed_unblocked;
 use crate::queue_diner::places::phase_of;
-use crate::queue_diner::places::remove;
 use dining::Diner;
 use dining::Phase;
 use refusals::Refusal;
@@ -24,7 +21,8 @@ pub impl Diner for QueueDiner as QueueDining {
 
     // One less than the drinkers: all the others.
     fn cap(&self) -> usize {
-        self.neighbourhood.drinkers() - 1
+        let all = self.neighbourhood.drinkers();
+        all - 1
     }
 
     fn neighbours(&self, p: usize, q: usize) -> bool {
@@ -41,12 +39,7 @@ pub impl Diner for QueueDiner as QueueDining {
     fn hungry(&mut self, p: usize) -> Result<(), Refusal> {
         match self.phase(p)? {
             Phase::Thinking => {
-                let place = self.waiting;
-                self.entries[place] = Entry {
-                    drinker: p,
-                    eating: false,
-                };
-                self.waiting = place + 1;
+                self.become_hungry(p);
                 Ok(())
             }
             _ => Err(Refusal::WrongState),
@@ -56,8 +49,7 @@ pub impl Diner for QueueDiner as QueueDining {
     fn done(&mut self, p: usize) -> Result<(), Refusal> {
         match self.phase(p)? {
             Phase::Eating => {
-                let left = remove(&mut self.entries, self.waiting, p);
-                self.waiting = left;
+                self.leave(p);
                 Ok(())
             }
             _ => Err(Refusal::WrongState),
@@ -65,6 +57,6 @@ pub impl Diner for QueueDiner as QueueDining {
     }
 
     fn turn(&mut self) {
-        feed_unblocked(&self.neighbourhood, &mut self.entries, self.waiting);
+        self.feed();
     }
 }

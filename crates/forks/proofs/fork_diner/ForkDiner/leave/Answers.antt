@@ -1,4 +1,4 @@
-use mathlib.Core.Path.{_≡_, sym, subst, _∙_}
+use mathlib.Core.Path.{sym, subst, _∙_}
 use Prim.Native.Nat.{_<_}
 use native.Mathlib.Omega.{arith}
 use lib.ListN.{length, length-set}
@@ -14,8 +14,8 @@ ghost-self c =
     let d = c .args .self .now in
     let p = c .args .p in
     let room : p < length (d .phases) = omega arith in
-    let kept = subst Orderly (sym (done-written d p (c .pre .0) (c .yield-to-all .last .precedes) (subst (λ n. Yields (d .neighbourhood) (d .precedes) p n (c .yield-to-all .last .precedes)) (c .drinkers-all .ensures) (c .yield-to-all .ensures)) room))
-        (orderly-done (forks d) (orderly d) p (c .pre .0)) in
+    let kept = subst Orderly (sym (done-written d p (c .pre .0) (c .yield-to-all .last .precedes) (subst (λ n. Yields (d .neighbourhood) (d .precedes) p n (c .yield-to-all .last .precedes)) (c .drinkers-count .ensures) (c .yield-to-all .ensures)) room))
+    (orderly-done (forks d) (orderly d) p (c .pre .0)) in
     (length-set (d .phases) p Thinking ∙ d .places, (kept .only, (kept .either, (kept .ranked, (kept .apart, tt)))))
 
 pub returns : need.returns
@@ -23,4 +23,4 @@ returns c =
     let d = c .args .self .now in
     let p = c .args .p in
     let room : p < length (d .phases) = omega arith in
-    done-written d p (c .pre .0) (c .yield-to-all .last .precedes) (subst (λ n. Yields (d .neighbourhood) (d .precedes) p n (c .yield-to-all .last .precedes)) (c .drinkers-all .ensures) (c .yield-to-all .ensures)) room
+    done-written d p (c .pre .0) (c .yield-to-all .last .precedes) (subst (λ n. Yields (d .neighbourhood) (d .precedes) p n (c .yield-to-all .last .precedes)) (c .drinkers-count .ensures) (c .yield-to-all .ensures)) room

@@ -1,8 +1,8 @@
-use mathlib.Core.Path.{_≡_, sym, ap, subst, _∙_}
+use mathlib.Core.Path.{_≡_, sym, subst, _∙_}
 use mathlib.Core.Bool.{false}
 use native.Mathlib.Omega.{arith}
 use Rattle.graph.specs.Counting.{any}
-use Rattle.forks.specs.Forks.{forks-of, phase-at, blocks}
+use Rattle.forks.specs.Forks.{forks-of, blocks}
 use Rattle.forks.proofs.Tables.{unblocked-none, unblocked-more, eats-if-unblocked, blocked-eats-not}
 use Rattle.forks.proofs.fork_diner.feeding.is_free_to_eat.Needs as need
 

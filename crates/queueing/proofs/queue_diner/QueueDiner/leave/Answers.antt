@@ -4,7 +4,7 @@ use Rattle.graph.specs.Neighbourhoods.{near}
 use Rattle.queueing.specs.Orderly.{orderly}
 use Rattle.queueing.specs.QueueDiners.{queue}
 use Rattle.queueing.proofs.Leaving.{orderly-left}
-use Rattle.queueing.proofs.queue_diner.calls.QueueDining.done.Needs as need
+use Rattle.queueing.proofs.queue_diner.QueueDiner.leave.Needs as need
 
 pub ghost-self : need.ghost-self
 ghost-self c =
@@ -14,7 +14,7 @@ ghost-self c =
         omega (arith, c .remove-left .ensures .few),
         (
           ap (orderly (near (d .neighbourhood)) (d .neighbourhood .drinkers)) (c .remove-left .ensures .left)
-              ∙ orderly-left (c .args .p) (near (d .neighbourhood)) (d .neighbourhood .drinkers) (queue d .entries) (d .sound),
+              ∙ orderly-left _ (near (d .neighbourhood)) (d .neighbourhood .drinkers) (queue d .entries) (d .sound),
           tt,
         ),
       ),

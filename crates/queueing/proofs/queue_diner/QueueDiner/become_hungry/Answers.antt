@@ -11,7 +11,7 @@ use Rattle.queueing.specs.QueueDiners.{queue}
 use Rattle.queueing.specs.declared.queue_diner.QueueDiner.{QueueDiner}
 use Rattle.queueing.proofs.Entries.{no-entry-where-thinking, room-for-one}
 use Rattle.queueing.proofs.Joining.{orderly-joined}
-use Rattle.queueing.proofs.queue_diner.calls.QueueDining.hungry.Needs as need
+use Rattle.queueing.proofs.queue_diner.QueueDiner.become_hungry.Needs as need
 
 -- a thinking drinker finds a place free
 place-free : (d : QueueDiner) (p : ℕ) → p < d .neighbourhood .drinkers → phase-in (queue d .entries) p ≡ Thinking → d .waiting < length (d .entries)
@@ -24,32 +24,26 @@ place-free d p l thinks = omega (
 )
 
 pub index-self-place : need.index-self-place
-index-self-place c =
-    let was = c .in-Continue-phase .ensures tt in
-    omega (arith, place-free (c .args .self .now) (c .args .p) (was .0) (was .1 ∙ c .in-Thinking .is))
+index-self-place c = omega (arith, place-free (c .args .self .now) (c .args .p) (c .pre .0) (c .pre .1))
 
 pub ghost-self : need.ghost-self
 ghost-self c =
     let d = c .args .self .now in
     let p = c .args .p in
-    let was = c .in-Continue-phase .ensures tt in
-    let thinks = was .1 ∙ c .in-Thinking .is in
-    let room = place-free d p (was .0) thinks in (
+    let room = place-free d p (c .pre .0) (c .pre .1) in (
       length-set (d .entries) (d .waiting) (hungry-entry p) ∙ d .room,
       (
         omega (arith, room),
         (
           ap (orderly (near (d .neighbourhood)) (d .neighbourhood .drinkers)) (take-more-set (d .entries) (d .waiting) (hungry-entry p) room)
-              ∙ orderly-joined p (near (d .neighbourhood)) (d .neighbourhood .drinkers) (was .0) (queue d .entries) (d .sound) (no-entry-where-thinking (queue d .entries) p thinks),
+              ∙ orderly-joined p (near (d .neighbourhood)) (d .neighbourhood .drinkers) (c .pre .0) (queue d .entries) (d .sound) (no-entry-where-thinking (queue d .entries) p (c .pre .1)),
           tt,
         ),
       ),
     )
 
-pub returns-in-Thinking : need.returns-in-Thinking
-returns-in-Thinking c =
+pub returns : need.returns
+returns c =
     let d = c .args .self .now in
     let p = c .args .p in
-    let was = c .in-Continue-phase .ensures tt in
-    let thinks = was .1 ∙ c .in-Thinking .is in
-    ((was .0, thinks), ap (with-entries (queue d)) (take-more-set (d .entries) (d .waiting) (hungry-entry p) (place-free d p (was .0) thinks)))
+    ap (with-entries (queue d)) (take-more-set (d .entries) (d .waiting) (hungry-entry p) (place-free d p (c .pre .0) (c .pre .1)))

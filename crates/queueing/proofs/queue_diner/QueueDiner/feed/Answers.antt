@@ -4,7 +4,7 @@ use Rattle.graph.specs.Neighbourhoods.{near}
 use Rattle.queueing.specs.Orderly.{orderly}
 use Rattle.queueing.specs.QueueDiners.{queue}
 use Rattle.queueing.proofs.Turning.{orderly-fed}
-use Rattle.queueing.proofs.queue_diner.calls.QueueDining.turn.Needs as need
+use Rattle.queueing.proofs.queue_diner.QueueDiner.feed.Needs as need
 
 pub ghost-self : need.ghost-self
 ghost-self c =
