@@ -16,7 +16,7 @@ mod feeding;
 pub mod making;
 mod yielding;
 
-#[derive(Clone, Copy)]
+#[derive(Drop)]
 pub struct ForkDiner {
     neighbourhood: Neighbourhood,
     // Drinker p's is at place p; the places beyond the drinkers are unused.

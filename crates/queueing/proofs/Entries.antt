@@ -13,7 +13,7 @@ use Rattle.dining.specs.declared.phase.Phase.the-variants.{Thinking, Hungry, Ea
 use Rattle.graph.specs.Counting.{number}
 use Rattle.graph.proofs.Counting.{number-le, number-most, number-more}
 use Rattle.queueing.specs.declared.entry.Entry.{Entry}
-use Rattle.queueing.specs.Queue.{phase-in, ahead-in}
+use Rattle.queueing.specs.Queue.{phase-in}
 use Rattle.queueing.specs.Orderly.{has-entry, eating-neighbour, orderly}
 
 -- The parts of a queue that is orderly.

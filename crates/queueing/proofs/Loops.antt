@@ -1,4 +1,4 @@
--- The loops over the entries, one step on: the search for a drinker, for an earlier neighbour, the removal, and the feeding.
+-- The loops over the entries, one step on: looking for a drinker, for an earlier neighbour, removing, and feeding.
 use mathlib.Core.Path.{_≡_, refl, sym, ap, _∙_}
 use mathlib.Core.Bool.{Bool, true, false, not, cond, _||_}
 use mathlib.Core.List.{List, [], _∷_, _++_}
@@ -8,7 +8,7 @@ use native.Mathlib.Omega.{arith}
 use lib.Dec.{eqb}
 use lib.ListN.{length, getD, set, take, drop}
 use Rattle.std.proofs.shelf.Lists.{append-nil, append-assoc, take-more, take-more-set, drop-more, drop-set-lt, getD-drop}
-use Rattle.std.proofs.shelf.Tests.{cases-bool, or-left, or-right, or-from}
+use Rattle.std.proofs.shelf.Tests.{cases-bool, cond-true, cond-false, or-left, or-right, or-from}
 use Rattle.dining.specs.declared.phase.Phase.the-variants.{Hungry, Eating}
 use Rattle.queueing.specs.declared.entry.Entry.{Entry}
 use Rattle.queueing.specs.Queue.{phase-in, without, has-neighbour, feed, fed, no-entry}
@@ -17,15 +17,18 @@ use Rattle.queueing.proofs.Turning.{neighbour-push}
 abbrev at : List Entry → ℕ → Entry
 at es i = getD es i no-entry
 
--- The search for p.
+-- The look-out for p's entry.
 module _ (es : List Entry) (i p : ℕ) (l : i < length es) where
+  phase-next : phase-in (drop i es) p ≡ cond (eqb (at es i .drinker) p) (cond (at es i .eating) Eating Hungry) (phase-in (drop (i + 1) es) p)
+  phase-next = ap (λ xs. phase-in xs p) (drop-more es i no-entry l)
+
   pub phase-found : eqb (at es i .drinker) p ≡ true → phase-in (drop i es) p ≡ cond (at es i .eating) Eating Hungry
-  phase-found t = ap (λ xs. phase-in xs p) (drop-more es i no-entry l) ∙ ap (λ b. cond b (cond (at es i .eating) Eating Hungry) (phase-in (drop (i + 1) es) p)) t
+  phase-found t = phase-next ∙ cond-true (eqb (at es i .drinker) p) _ _ t
 
   pub phase-passed : eqb (at es i .drinker) p ≡ false → phase-in (drop i es) p ≡ phase-in (drop (i + 1) es) p
-  phase-passed t = ap (λ xs. phase-in xs p) (drop-more es i no-entry l) ∙ ap (λ b. cond b (cond (at es i .eating) Eating Hungry) (phase-in (drop (i + 1) es) p)) t
+  phase-passed t = phase-next ∙ cond-false (eqb (at es i .drinker) p) _ _ t
 
--- The search for an earlier neighbour.
+-- The look-out for an earlier neighbour.
 module _ (near : ℕ → ℕ → Bool) where
   pub neighbour-at : (es : List Entry) (i n q : ℕ) → i < n → i < length es → near (at es i .drinker) q ≡ true → has-neighbour near (take n es) q ≡ true
   neighbour-at [] i n q l m t = absurd (omega arith)

@@ -14,7 +14,7 @@ mod feeding;
 pub mod making;
 mod places;
 
-#[derive(Clone, Copy)]
+#[derive(Drop)]
 pub struct QueueDiner {
     neighbourhood: Neighbourhood,
     // The queue, its oldest entry first; the places from `waiting` on are unused.

@@ -10,6 +10,7 @@ use crate::fork_diner::yielding::yield_to_all;
 use dining::Phase;
 
 impl ForkDiner {
+    // p turns hungry.
     pub(super) fn become_hungry(&mut self, p: usize)
         requires { ⌜ Is-in (meaning (now self)) Thinking p ⌝ }
         ensures { λ _. ⌜ hunger-of (now (self .entry)) p (now (self .exit)) ⌝ }

@@ -9,6 +9,7 @@ use crate::queue_diner::feeding::feed_unblocked;
 use crate::queue_diner::places::remove;
 
 impl QueueDiner {
+    // p turns hungry: it is last in the queue.
     pub(super) fn become_hungry(&mut self, p: usize)
         requires { ⌜ Is-in (meaning (now self)) Thinking p ⌝ }
         ensures { λ _. ⌜ hunger-of (now (self .entry)) p (now (self .exit)) ⌝ }
@@ -29,6 +30,7 @@ impl QueueDiner {
         self.waiting = left;
     }
 
+    // Everybody eats that has no neighbour earlier in the queue.
     pub(super) fn feed(&mut self)
         ensures { λ _. ⌜ turn-of (now (self .entry)) (now (self .exit)) ⌝ }
     {
