@@ -15,7 +15,8 @@ use Rattle.relations.specs.declared.relation.Relation.{Relation}
 use Rattle.relations.specs.Related.{related, is-pair}
 use Rattle.forks.specs.declared.fork_diner.ForkDiner.{ForkDiner}
 use Rattle.forks.specs.Forks.{forks-of, with-phases, after-hungry, behind, after-done}
-use Rattle.forks.specs.ForkDiners.{forks, Yields}
+use Rattle.forks.specs.ForkDiners.{forks}
+use Rattle.forks.specs.Yielding.{Yields}
 use Rattle.forks.specs.Orderly.{Orderly}
 use Rattle.forks.specs.Waiting.{degree}
 use Rattle.forks.proofs.Tables.{phase-written}

@@ -1,13 +1,7 @@
 -- The fork diner that the code has, by its model: what it means, and exactly what each of its calls does.
 use mathlib.Core.Path.{_≡_}
-use mathlib.Core.Bool.{false, cond, _&&_}
 use Prim.Native.Nat.{ℕ}
-use lib.Dec.{eqb, ltb}
 use Rattle.dining.specs.Dining.{Dining}
-use Rattle.graph.specs.declared.neighbourhood.Neighbourhood.{Neighbourhood}
-use Rattle.graph.specs.Neighbourhoods.{near}
-use Rattle.relations.specs.declared.relation.Relation.{Relation}
-use Rattle.relations.specs.Related.{related}
 use Rattle.forks.specs.declared.fork_diner.ForkDiner.{ForkDiner}
 use Rattle.forks.specs.Forks.{Forks, forks-of, after-hungry, after-done, after-turn}
 use Rattle.forks.specs.Waiting.{dining}
@@ -26,8 +20,3 @@ leave-of d p e = forks e ≡ after-done (forks d) p
 
 abbrev pub turn-of : ForkDiner → ForkDiner → Type 0
 turn-of d e = forks e ≡ after-turn (forks d)
-
--- p has yielded to its neighbours below n: it precedes none of them, they precede it, and the other pairs are as they were
-abbrev pub Yields : Neighbourhood → Relation → ℕ → ℕ → Relation → Type 0
-Yields s old p n new = (a b : ℕ)
-    → related new a b ≡ cond (eqb a p && ltb b n) false (cond (eqb b p && ltb a n) (near s a p) (related old a b))

@@ -1,5 +1,6 @@
+pub mod ForkDiners
 pub mod Forks
+pub mod Orderly
 pub mod Upstream
 pub mod Waiting
-pub mod Orderly
-pub mod ForkDiners
+pub mod Yielding

@@ -1,6 +1,6 @@
 -- Who is a neighbour by a list of ends: what each element adds, and that the relation is symmetric, irreflexive and of drinkers alone.
-use mathlib.Core.Path.{_≡_, refl, ap, _∙_}
-use mathlib.Core.Bool.{Bool, true, false, _||_}
+use mathlib.Core.Path.{_≡_, refl, sym, ap, _∙_}
+use mathlib.Core.Bool.{Bool, true, false, _||_, or-false, or-assoc}
 use mathlib.Core.List.{List, [], _∷_, _++_}
 use Prim.Native.Nat.{ℕ, zero, suc, _+_, _<_}
 use native.Mathlib.Omega.{arith}
@@ -25,16 +25,8 @@ neighbours-by (x ∷ es) zero p q l e = or-left (joins x p q) _ e
 neighbours-by (x ∷ es) (suc b) p q l e = or-right (joins x p q) _ (neighbours-by es b p q (omega arith) e)
 
 pub neighbours-push : (es : List Ends) (x : Ends) (p q : ℕ) → neighbours (es ++ x ∷ []) p q ≡ (neighbours es p q || joins x p q)
-neighbours-push [] x p q = go (joins x p q)
-  where
-    go : (t : Bool) → (t || false) ≡ t
-    go true = refl
-    go false = refl
-neighbours-push (y ∷ es) x p q = ap (λ t. joins y p q || t) (neighbours-push es x p q) ∙ go (joins y p q) (neighbours es p q) (joins x p q)
-  where
-    go : (r s t : Bool) → (r || (s || t)) ≡ ((r || s) || t)
-    go true s t = refl
-    go false s t = refl
+neighbours-push [] x p q = or-false (joins x p q)
+neighbours-push (y ∷ es) x p q = ap (λ t. joins y p q || t) (neighbours-push es x p q) ∙ sym (or-assoc (joins y p q) (neighbours es p q) (joins x p q))
 
 -- The relation.
 pub neighbours-symmetric : (es : List Ends) (p q : ℕ) → neighbours es p q ≡ true → neighbours es q p ≡ true

@@ -1,13 +1,13 @@
 -- A thinking drinker becomes hungry: it joins the queue at its end, and nobody else's place changes.
 use mathlib.Core.Path.{_≡_, refl, sym, ap, _∙_}
-use mathlib.Core.Bool.{Bool, true, false, cond, _&&_, _||_}
+use mathlib.Core.Bool.{Bool, true, false, cond, _&&_, _||_, or-false, or-assoc}
 use mathlib.Core.List.{List, [], _∷_, _++_}
 use mathlib.Core.Logic.{_⊎_, inr, ⊎-elim}
 use Prim.Native.Nat.{ℕ, _+_, _-_, _<_}
 use native.Mathlib.Omega.{arith}
 use lib.Dec.{eqb}
 use lib.ListN.{length}
-use Rattle.std.proofs.shelf.Tests.{both-ways, cases-bool, or-parts, eq-eqb, ne-eqb}
+use Rattle.std.proofs.shelf.Tests.{and-right, both-ways, cases-bool, or-parts, eq-eqb, ne-eqb}
 use Rattle.std.proofs.shelf.Ways.{tells}
 use Rattle.dining.specs.declared.phase.Phase.the-variants.{Thinking, Hungry, Eating}
 use Rattle.dining.specs.Laws.{Lawful-hungry}
@@ -55,24 +55,12 @@ module _ (p : ℕ) where
   -- The queue stays orderly.
   entry-joined : (es : List Entry) (q : ℕ) → has-entry (joined es) q ≡ (has-entry es q || eqb p q)
   unfolding joined
-  entry-joined [] q = go (eqb p q)
-    where
-      go : (t : Bool) → (t || false) ≡ t
-      go true = refl
-      go false = refl
-  entry-joined (e ∷ es) q = ap (λ t. eqb (e .drinker) q || t) (entry-joined es q) ∙ go (eqb (e .drinker) q) (has-entry es q) (eqb p q)
-    where
-      go : (a b c : Bool) → (a || (b || c)) ≡ ((a || b) || c)
-      go true b c = refl
-      go false b c = refl
+  entry-joined [] q = or-false (eqb p q)
+  entry-joined (e ∷ es) q = ap (λ t. eqb (e .drinker) q || t) (entry-joined es q) ∙ sym (or-assoc (eqb (e .drinker) q) (has-entry es q) (eqb p q))
 
   eaters-joined : (near : ℕ → ℕ → Bool) (q : ℕ) (es : List Entry) → eating-neighbour near q (joined es) ≡ eating-neighbour near q es
   unfolding joined
-  eaters-joined near q [] = go (near q p)
-    where
-      go : (t : Bool) → ((t && false) || false) ≡ false
-      go true = refl
-      go false = refl
+  eaters-joined near q [] = or-false (near q p && false) ∙ and-right (near q p) false refl
   eaters-joined near q (e ∷ es) = ap (λ t. (near q (e .drinker) && e .eating) || t) (eaters-joined near q es)
 
   pub orderly-joined : (near : ℕ → ℕ → Bool) (n : ℕ) → p < n → (es : List Entry) → orderly near n es ≡ true → has-entry es p ≡ false → orderly near n (es ++ hungry-entry p ∷ []) ≡ true

@@ -1,6 +1,6 @@
 -- The loops over the entries, one step on: looking for a drinker, for an earlier neighbour, removing, and feeding.
 use mathlib.Core.Path.{_≡_, refl, sym, ap, _∙_}
-use mathlib.Core.Bool.{Bool, true, false, not, cond, _||_}
+use mathlib.Core.Bool.{Bool, true, false, not, cond, _||_, or-true, or-false}
 use mathlib.Core.List.{List, [], _∷_, _++_}
 use mathlib.Core.Logic.{⊎-elim}
 use Prim.Native.Nat.{ℕ, zero, suc, _+_, _≤_, _<_}
@@ -124,11 +124,7 @@ module _ (near : ℕ → ℕ → Bool) where
     feeding-feeds t =
         let same = first-to-come now old i back in
         let test : false ≡ has-neighbour near (take i old) (at old i .drinker) = sym t ∙ same-test (at now i .drinker) ∙ ap (λ x. has-neighbour near (take i old) (x .drinker)) same in
-        fed-there _ (entry-of (at now i) false true same (go (at now i .eating)) test)
-      where
-        go : (b : Bool) → (b || true) ≡ true
-        go true = refl
-        go false = refl
+        fed-there _ (entry-of (at now i) false true same (or-true (at now i .eating)) test)
 
     pub feeding-passes : has-neighbour near (take i now) (at now i .drinker) ≡ true → take (i + 1) now ≡ fed near [] (take (i + 1) old)
     feeding-passes t =
@@ -136,12 +132,8 @@ module _ (near : ℕ → ℕ → Bool) where
         let test : true ≡ has-neighbour near (take i old) (at old i .drinker) = sym t ∙ same-test (at now i .drinker) ∙ ap (λ x. has-neighbour near (take i old) (x .drinker)) same in
         take-more now i no-entry m
         ∙ ap (λ xs. xs ++ at now i ∷ []) front
-        ∙ ap (λ y. fed near [] (take i old) ++ y ∷ []) (entry-of (at now i) true (at now i .eating) same (go (at now i .eating)) test)
+        ∙ ap (λ y. fed near [] (take i old) ++ y ∷ []) (entry-of (at now i) true (at now i .eating) same (or-false (at now i .eating)) test)
         ∙ sym (fed-next old i l)
-      where
-        go : (b : Bool) → (b || false) ≡ b
-        go true = refl
-        go false = refl
 
     pub feeding-leaves : (x : Entry) → drop (i + 1) (set now i x) ≡ drop (i + 1) old
     feeding-leaves x = drop-set-lt (i + 1) now i x (omega arith) ∙ rest-to-come now old i m l back

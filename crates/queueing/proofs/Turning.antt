@@ -1,6 +1,6 @@
 -- A turn: entries are fed in their places, so nobody's ahead changes, and the first in the queue always eats.
-use mathlib.Core.Path.{_≡_, refl, ap, _∙_}
-use mathlib.Core.Bool.{Bool, true, false, not, cond, _&&_, _||_}
+use mathlib.Core.Path.{_≡_, refl, sym, ap, _∙_}
+use mathlib.Core.Bool.{Bool, true, false, not, cond, _&&_, _||_, or-false, or-assoc}
 use mathlib.Core.List.{List, [], _∷_, _++_}
 use mathlib.Core.Logic.{_⊎_, inl, inr, ⊎-elim}
 use Prim.Native.Nat.{ℕ, _+_}
@@ -70,16 +70,8 @@ module _ (near : ℕ → ℕ → Bool) where
 
   -- Whose neighbours are all blocked by an earlier entry has no neighbour that is fed later.
   pub neighbour-push : (earlier : List Entry) (e : Entry) (q : ℕ) → has-neighbour near (earlier ++ e ∷ []) q ≡ (has-neighbour near earlier q || near (e .drinker) q)
-  neighbour-push [] e q = go (near (e .drinker) q)
-    where
-      go : (t : Bool) → (t || false) ≡ t
-      go true = refl
-      go false = refl
-  neighbour-push (x ∷ earlier) e q = ap (λ t. near (x .drinker) q || t) (neighbour-push earlier e q) ∙ go (near (x .drinker) q) (has-neighbour near earlier q) (near (e .drinker) q)
-    where
-      go : (a b c : Bool) → (a || (b || c)) ≡ ((a || b) || c)
-      go true b c = refl
-      go false b c = refl
+  neighbour-push [] e q = or-false (near (e .drinker) q)
+  neighbour-push (x ∷ earlier) e q = ap (λ t. near (x .drinker) q || t) (neighbour-push earlier e q) ∙ sym (or-assoc (near (x .drinker) q) (has-neighbour near earlier q) (near (e .drinker) q))
 
   Blocks : ℕ → List Entry → Type 0
   Blocks p earlier = (q : ℕ) → near p q ≡ true → has-neighbour near earlier q ≡ true

@@ -7,7 +7,7 @@ use refusals::Refusal;
 use sets::Set;
 
 // Four drinkers in a ring: 0 beside 1, 1 beside 2, 2 beside 3, 3 beside 0.
-pub fn ring() -> Result<Graph, Refusal> {
+pub(crate) fn ring() -> Result<Graph, Refusal> {
     let mut graph = Graph::new(4)?;
     graph.join(0, 1)?;
     graph.join(1, 2)?;
@@ -17,7 +17,7 @@ pub fn ring() -> Result<Graph, Refusal> {
 }
 
 // Drinker 0 in the middle, beside 1, 2 and 3, who have no other neighbour.
-pub fn star() -> Result<Graph, Refusal> {
+pub(crate) fn star() -> Result<Graph, Refusal> {
     let mut graph = Graph::new(4)?;
     graph.join(0, 1)?;
     graph.join(0, 2)?;
@@ -26,7 +26,7 @@ pub fn star() -> Result<Graph, Refusal> {
 }
 
 // Who eats, as the bits of a set.
-pub fn eating<D: Diner>(diner: &D) -> u32 {
+pub(crate) fn eating<D: Diner>(diner: &D) -> u32 {
     let mut who = Set::empty();
     for p in 0..diner.drinkers() {
         if let Ok(phase) = diner.phase(p) {
@@ -39,7 +39,7 @@ pub fn eating<D: Diner>(diner: &D) -> u32 {
 }
 
 // All these become hungry, in this order.
-pub fn all_hungry<D: Diner>(diner: &mut D, order: &[usize]) -> Result<(), Refusal> {
+pub(crate) fn all_hungry<D: Diner>(diner: &mut D, order: &[usize]) -> Result<(), Refusal> {
     for p in order {
         diner.hungry(*p)?;
     }
@@ -47,7 +47,7 @@ pub fn all_hungry<D: Diner>(diner: &mut D, order: &[usize]) -> Result<(), Refusa
 }
 
 // The drinker is done, and a turn follows; answers who eats then.
-pub fn after<D: Diner>(diner: &mut D, p: usize) -> Result<u32, Refusal> {
+pub(crate) fn after<D: Diner>(diner: &mut D, p: usize) -> Result<u32, Refusal> {
     diner.done(p)?;
     diner.turn();
     Ok(eating(diner))

@@ -2,7 +2,7 @@
 ghost use mathlib.Core.Path.{_≡_};
 ghost use mathlib.Core.Bool.{false, cond};
 ghost use Prim.Native.Nat.{ℕ, _<_, _≤_};
-ghost use Rattle.forks.specs.ForkDiners.{Yields};
+ghost use Rattle.forks.specs.Yielding.{Yields};
 ghost use Rattle.graph.specs.Neighbourhoods.{near};
 ghost use Rattle.relations.specs.Related.{related, is-pair};
 use graph::Neighbourhood;

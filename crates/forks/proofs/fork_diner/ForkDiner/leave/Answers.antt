@@ -3,7 +3,8 @@ use Prim.Native.Nat.{_<_}
 use native.Mathlib.Omega.{arith}
 use lib.ListN.{length, length-set}
 use Rattle.dining.specs.declared.phase.Phase.the-variants.{Thinking}
-use Rattle.forks.specs.ForkDiners.{forks, Yields}
+use Rattle.forks.specs.ForkDiners.{forks}
+use Rattle.forks.specs.Yielding.{Yields}
 use Rattle.forks.specs.Orderly.{Orderly}
 use Rattle.forks.proofs.Diners.{orderly, done-written}
 use Rattle.forks.proofs.Done.{orderly-done}

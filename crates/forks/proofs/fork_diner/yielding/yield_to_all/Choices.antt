@@ -1,4 +1,4 @@
-use Rattle.forks.specs.ForkDiners.{Yields}
+use Rattle.forks.specs.Yielding.{Yields}
 use Rattle.forks.proofs.fork_diner.yielding.yield_to_all.Given as given
 
 abbrev pub Inv-loop-q : given.InvT-loop-q
