@@ -47,7 +47,7 @@ fn show_answers(rt: &LibcRuntime, table: &Table, forks: u8, queue: u8) -> io::Re
     println!(rt, "")
 }
 
-pub fn run_line(rt: &LibcRuntime, table: &mut Table, line: &str) -> io::Result<()> {
+pub(crate) fn run_line(rt: &LibcRuntime, table: &mut Table, line: &str) -> io::Result<()> {
     let mut words = line.split(' ');
     let call = words.next();
     let first = number(words.next());

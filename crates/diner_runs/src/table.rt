@@ -16,7 +16,7 @@ pub struct Table {
 }
 
 impl Table {
-    pub fn new(drinkers: usize) -> Result<Table, Refusal> {
+    pub(crate) fn new(drinkers: usize) -> Result<Table, Refusal> {
         let graph = Graph::new(drinkers)?;
         Ok(Table {
             graph,
@@ -26,7 +26,7 @@ impl Table {
     }
 
     // One bottle more; both diners are made anew.
-    pub fn join(&mut self, lower: usize, higher: usize) -> Result<usize, Refusal> {
+    pub(crate) fn join(&mut self, lower: usize, higher: usize) -> Result<usize, Refusal> {
         let bottle = self.graph.join(lower, higher)?;
         self.forks = ForkDiner::new(&self.graph);
         self.queue = QueueDiner::new(&self.graph);
@@ -35,7 +35,7 @@ impl Table {
 }
 
 // A letter for a phase.
-pub fn letter<D: Diner>(diner: &D, p: usize) -> char {
+pub(crate) fn letter<D: Diner>(diner: &D, p: usize) -> char {
     match diner.phase(p) {
         Ok(Phase::Thinking) => 't',
         Ok(Phase::Hungry) => 'h',
@@ -45,7 +45,7 @@ pub fn letter<D: Diner>(diner: &D, p: usize) -> char {
 }
 
 // 0 for a call that is granted, else the number of the refusal.
-pub fn code(answer: Result<(), Refusal>) -> u8 {
+pub(crate) fn code(answer: Result<(), Refusal>) -> u8 {
     match answer {
         Ok(()) => 0,
         Err(refusal) => refusal.number(),

@@ -59,16 +59,15 @@ module _ (s : Neighbourhood) (old sofar new : Relation) (p q : ℕ) (small : (p 
           → cond (is-pair q p a b) v (cond (is-pair p q a b) false x) ≡ cond (eqb a p && ltb b (q + 1)) false (cond (eqb b p && ltb a (q + 1)) k o)
       go x o k v h m n = let u = small .0 in let w = small .1 in grind (arith, tells)
 
-module _ (d : ForkDiner) (p : ℕ) (l : p < d .neighbourhood .drinkers) (new : Relation)
-    (Y : Yields (d .neighbourhood) (d .precedes) p (d .neighbourhood .drinkers) new) where
+module _ (d : ForkDiner) (p : ℕ) (l : p < d .neighbourhood .drinkers) (new : Relation) (n : ℕ) (all : n ≡ d .neighbourhood .drinkers)
+    (Y : Yields (d .neighbourhood) (d .precedes) p n new) where
   all-yielded : (a b : ℕ) → related new a b ≡ behind (forks d) p a b
   unfolding behind
   all-yielded a b = Y a b ∙ go (near (d .neighbourhood) a p) (related (d .precedes) a b)
       (λ h. d .neighbourhood .known a p h .0) (λ h. d .neighbourhood .known a b (d .only a b h))
     where
       go : (x y : Bool) → (x ≡ true → a < d .neighbourhood .drinkers) → (y ≡ true → (a < d .neighbourhood .drinkers) × (b < d .neighbourhood .drinkers))
-          → cond (eqb a p && ltb b (d .neighbourhood .drinkers)) false (cond (eqb b p && ltb a (d .neighbourhood .drinkers)) x y)
-          ≡ cond (eqb a p) false (cond (eqb b p) x y)
+          → cond (eqb a p && ltb b n) false (cond (eqb b p && ltb a n) x y) ≡ cond (eqb a p) false (cond (eqb b p) x y)
       go x y h i = grind (arith, tells)
 
   pub done-written : p < length (d .phases) → forks-of (d .neighbourhood) (set (d .phases) p Thinking) new ≡ after-done (forks d) p

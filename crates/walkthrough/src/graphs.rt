@@ -18,7 +18,7 @@ fn join(rt: &LibcRuntime, graph: &mut Graph, lower: usize, higher: usize) -> io:
 }
 
 // A ring of five, and two joins that the graph refuses: a pair joined already, and ends in the wrong order.
-pub fn join_all(rt: &LibcRuntime, graph: &mut Graph) -> io::Result<()> {
+pub(crate) fn join_all(rt: &LibcRuntime, graph: &mut Graph) -> io::Result<()> {
     for p in 0..4usize {
         join(rt, graph, p, p + 1)?;
     }
@@ -38,7 +38,7 @@ fn show_shared(rt: &LibcRuntime, p: usize, shared: Set) -> io::Result<()> {
 }
 
 // Which bottles each drinker shares.
-pub fn show_drinkers(rt: &LibcRuntime, graph: &Graph) -> io::Result<()> {
+pub(crate) fn show_drinkers(rt: &LibcRuntime, graph: &Graph) -> io::Result<()> {
     for p in 0..graph.drinkers() {
         show_shared(rt, p, graph.shared_by(p))?;
     }

@@ -52,7 +52,11 @@ fn make_hungry<D: Diner>(rt: &LibcRuntime, diner: &mut D, order: &[usize]) -> io
 }
 
 // Makes the drinkers hungry in this order, and then lets the lowest that eats be done, until nobody eats.
-pub fn serve_all<D: Diner>(rt: &LibcRuntime, diner: &mut D, order: &[usize]) -> io::Result<()> {
+pub(crate) fn serve_all<D: Diner>(
+    rt: &LibcRuntime,
+    diner: &mut D,
+    order: &[usize],
+) -> io::Result<()> {
     println!(rt, "  cap {}", diner.cap())?;
     make_hungry(rt, diner, order)?;
     let beyond = diner.drinkers();

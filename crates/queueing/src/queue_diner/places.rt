@@ -1,10 +1,19 @@
 // The entries of a queue: who has one, and how one is taken out.
 ghost use mathlib.Core.Path.{_≡_};
+ghost use mathlib.Core.Bool.{cond};
 ghost use Prim.Native.Nat.{_≤_};
 ghost use lib.ListN.{length, take};
+ghost use Rattle.dining.specs.declared.phase.Phase.the-variants.{Hungry, Eating};
 ghost use Rattle.queueing.specs.Queue.{phase-in, without};
 use crate::entry::Entry;
 use dining::Phase;
+
+// Who is in the queue is hungry, or eats.
+fn phase_in_queue(eating: bool) -> Phase
+    ensures { λ r. ⌜ r ≡ cond eating Eating Hungry ⌝ }
+{
+    if eating { Phase::Eating } else { Phase::Hungry }
+}
 
 // The phase of p, by the first `waiting` entries.
 pub(super) fn phase_of(entries: &[Entry; 16], waiting: usize, p: usize) -> Phase
@@ -14,11 +23,7 @@ pub(super) fn phase_of(entries: &[Entry; 16], waiting: usize, p: usize) -> Phase
     for i in 0..waiting {
         let entry = entries[i];
         if entry.drinker == p {
-            return if entry.eating {
-                Phase::Eating
-            } else {
-                Phase::Hungry
-            };
+            return phase_in_queue(entry.eating);
         }
     }
     Phase::Thinking

@@ -4,7 +4,6 @@ use native.Mathlib.Omega.{arith}
 use lib.ListN.{length, length-set}
 use Rattle.dining.specs.declared.phase.Phase.the-variants.{Thinking}
 use Rattle.forks.specs.ForkDiners.{forks}
-use Rattle.forks.specs.Yielding.{Yields}
 use Rattle.forks.specs.Orderly.{Orderly}
 use Rattle.forks.proofs.Diners.{orderly, done-written}
 use Rattle.forks.proofs.Done.{orderly-done}
@@ -15,7 +14,7 @@ ghost-self c =
     let d = c .args .self .now in
     let p = c .args .p in
     let room : p < length (d .phases) = omega arith in
-    let kept = subst Orderly (sym (done-written d p (c .pre .0) (c .yield-to-all .last .precedes) (subst (λ n. Yields (d .neighbourhood) (d .precedes) p n (c .yield-to-all .last .precedes)) (c .drinkers-count .ensures) (c .yield-to-all .ensures)) room))
+    let kept = subst Orderly (sym (done-written d p (c .pre .0) (c .yield-to-all .last .precedes) _ (c .drinkers-count .ensures) (c .yield-to-all .ensures) room))
     (orderly-done (forks d) (orderly d) p (c .pre .0)) in
     (length-set (d .phases) p Thinking ∙ d .places, (kept .only, (kept .either, (kept .ranked, (kept .apart, tt)))))
 
@@ -24,4 +23,4 @@ returns c =
     let d = c .args .self .now in
     let p = c .args .p in
     let room : p < length (d .phases) = omega arith in
-    done-written d p (c .pre .0) (c .yield-to-all .last .precedes) (subst (λ n. Yields (d .neighbourhood) (d .precedes) p n (c .yield-to-all .last .precedes)) (c .drinkers-count .ensures) (c .yield-to-all .ensures)) room
+    done-written d p (c .pre .0) (c .yield-to-all .last .precedes) _ (c .drinkers-count .ensures) (c .yield-to-all .ensures) room

@@ -10,23 +10,14 @@ use Rattle.queueing.specs.Queue.{phase-in, no-entry}
 use Rattle.queueing.proofs.Loops.{phase-found, phase-passed}
 use Rattle.queueing.proofs.queue_diner.places.phase_of.Needs as need
 
-pub returns-then-entry : need.returns-then-entry
-returns-then-entry c =
+pub returns-then-entry-p : need.returns-then-entry-p
+returns-then-entry-p c =
     let es = take (c .args .waiting) (c .args .entries .now) in
     let i = c .loop-i .i in
     let inside : i < length es = omega (arith, length-take-le (c .args .waiting) (c .args .entries .now) (omega arith)) in
     let here = getD-take (c .args .waiting) (c .args .entries .now) i no-entry (omega arith) in
     let mine = eq-eqb _ (c .args .p) (ap (λ e. e .drinker) here ∙ c .if-entry-p .taken) in
-    sym (sym (c .loop-i .inv) ∙ phase-found es i (c .args .p) inside mine ∙ ap (λ b. cond b Eating Hungry) (ap (λ e. e .eating) here ∙ c .if-entry .taken))
-
-pub returns-else-entry : need.returns-else-entry
-returns-else-entry c =
-    let es = take (c .args .waiting) (c .args .entries .now) in
-    let i = c .loop-i .i in
-    let inside : i < length es = omega (arith, length-take-le (c .args .waiting) (c .args .entries .now) (omega arith)) in
-    let here = getD-take (c .args .waiting) (c .args .entries .now) i no-entry (omega arith) in
-    let mine = eq-eqb _ (c .args .p) (ap (λ e. e .drinker) here ∙ c .if-entry-p .taken) in
-    sym (sym (c .loop-i .inv) ∙ phase-found es i (c .args .p) inside mine ∙ ap (λ b. cond b Eating Hungry) (ap (λ e. e .eating) here ∙ c .if-entry .left))
+    c .phase-in-queue .ensures ∙ sym (sym (c .loop-i .inv) ∙ phase-found es i (c .args .p) inside mine ∙ ap (λ e. cond (e .eating) Eating Hungry) here)
 
 pub loop-i-again : need.loop-i-again
 loop-i-again c =
