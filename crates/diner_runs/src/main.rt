@@ -1,4 +1,5 @@
 // Runs both diners on the calls that standard input lists, a call to a line, and prints every answer and every phase.
+#![tactic(auto)]
 
 mod calls;
 mod table;

@@ -1,4 +1,6 @@
 // What a diner is: who thinks, who is hungry, who eats, and in which order the hungry are fed.
+#![tactic(auto)]
+
 pub mod diner;
 pub mod passing;
 pub mod phase;

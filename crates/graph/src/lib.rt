@@ -1,4 +1,6 @@
 // Drinkers and the bottles that they share, two by two.
+#![tactic(auto)]
+
 pub mod ends;
 pub mod graph;
 pub mod neighbourhood;

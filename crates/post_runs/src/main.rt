@@ -1,4 +1,5 @@
 // Runs a wire and three posts on the calls that standard input lists, a call to a line, and prints every answer.
+#![tactic(auto)]
 
 mod calls;
 mod setup;

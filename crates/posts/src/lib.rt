@@ -1,4 +1,6 @@
 // What carries messages from one end of a bottle to the other: posts with channels, in which messages wait in order.
+#![tactic(auto)]
+
 pub mod event;
 pub mod exchanging;
 pub mod message_list;

@@ -1,4 +1,6 @@
 // Why a call is refused: one list for the whole library, each case named by what it means.
+#![tactic(auto)]
+
 ghost use Rattle.std.specs.Prelude.{◌≡◌};
 ghost use Rattle.refusals.specs.Numbers.{number_of};
 

@@ -1,4 +1,6 @@
 // Small graphs where the order of the meals is known, and messages over wires whose losses are known, worked out by hand from the rules. The crate holds tests and nothing else.
+#![tactic(auto)]
+
 #[cfg(test)]
 mod deliveries;
 #[cfg(test)]

@@ -1,4 +1,6 @@
 // A set of numbers below 32, as the bits of one word: bit b stands for member b.
+#![tactic(auto)]
+
 ghost use Rattle.std.specs.Prelude.{◌≡◌, ℕ, true, false};
 ghost use Rattle.sets.specs.Members.{has, NoneIn, SomeIn, Within, Adds, with_bits};
 

@@ -1,4 +1,6 @@
 // A walk through the library: a graph is built, both diners take every drinker from hungry to done, and messages go over a wire that loses frames.
+#![tactic(auto)]
+
 use dining::Diner;
 use forks::ForkDiner;
 use graph::Graph;

@@ -1,4 +1,6 @@
 // What carries frames: wires of 128 lines, which lose a frame now and then, but never too many in a row.
+#![tactic(auto)]
+
 pub mod faultless;
 pub mod frame;
 pub mod message;
