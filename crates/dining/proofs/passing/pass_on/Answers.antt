@@ -4,7 +4,7 @@ use Rattle.dining.proofs.passing.pass_on.Goals as goal
 pub returns : goal.returns
 returns g c =
     let laws = g.met.D.Diner.laws in
-    let granted = c.in-ok-done.ensures in
+    let granted = c.in_ok-done.ensures in
     let between = c.done.new.self in
     let after = c.turn.new.self in
     record {

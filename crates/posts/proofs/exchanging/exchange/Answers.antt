@@ -26,14 +26,14 @@ loop-call-preserved g c =
     let p = g.P.Post in
     let calls = c.args.calls.now in
     let i = c.loop-call.call-index in
-    let e = c.try-call-event.result in
+    let e = c.try_call-event.result in
     let before = vec_items c.loop-call.events in
     let after = vec_items c.push.new.self in
     let room = c.push.ensures.succeeds (omega arith) in
     let one_more = pushed _ before after e room c.push.ensures.items in
-    let tried = happened_more g.met.P.Post.laws before e c.args.post.now c.loop-call.post c.try-call-event.new.post c.loop-call.invariant.1 c.try-call-event.ensures.did in (
-      calls_more calls i _ before after e one_more c.loop-call.invariant.0 c.try-call-event.ensures.made (omega arith),
-      subst (λ xs. Happened p.means p.puts p.takes p.ticks xs c.args.post.now c.try-call-event.new.post) (sym one_more) tried,
+    let tried = happened_more g.met.P.Post.laws before e c.args.post.now c.loop-call.post c.try_call-event.new.post c.loop-call.invariant.1 c.try_call-event.ensures.did in (
+      calls_more calls i _ before after e one_more c.loop-call.invariant.0 c.try_call-event.ensures.made (omega arith),
+      subst (λ xs. Happened p.means p.puts p.takes p.ticks xs c.args.post.now c.try_call-event.new.post) (sym one_more) tried,
       omega (arith, counted _ (vec_len c.loop-call.events) (vec_len c.push.new.self) room c.push.ensures.len),
       omega (arith, c.push.ensures.capacity),
     )

@@ -3,5 +3,5 @@ use Rattle.wires.proofs.pattern.check_pattern.Goals as goal
 
 pub returns : goal.returns
 returns c =
-    let answer = c.longest-run-if-usable in
+    let answer = c.longest_run_if_usable in
     record { checked = answer.ensures; read_round = longest_run_if_checked c.args.pattern.now answer.result answer.ensures }

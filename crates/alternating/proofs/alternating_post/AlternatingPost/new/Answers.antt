@@ -8,6 +8,6 @@ use Rattle.alternating.proofs.alternating_post.AlternatingPost.new.Goals as goal
 unused_sound : Sound unused
 unused_sound = (omega arith, omega arith)
 
-pub invariant-of-result : goal.invariant-of-result
-invariant-of-result g c =
+pub invariant_of-result : goal.invariant_of-result
+invariant_of-result g c =
     (refl, ((λ k h. subst Sound (sym (get_or-replicate {A = Channel} 64 k c.new.result unused h ∙ c.new.ensures)) unused_sound), tt))

@@ -19,4 +19,4 @@ returns-in-Ok g c =
     let did = c.in-Ok.ensures in
     let law = g.met.W.Wire.laws.carry_is_lawful w l f came v did.0 did.1 in
     let R : Option Frame → Type 0 = λ o. g.W.Wire.carries w l f o v in
-    subst (λ b. MatchBool b (R (Some f)) (R None)) (sym c.is-some.ensures) (same_frame_or_none f came R _ law.same_frame_or_grace_falls did.1)
+    subst (λ b. MatchBool b (R (Some f)) (R None)) (sym c.is_some.ensures) (same_frame_or_none f came R _ law.same_frame_or_grace_falls did.1)

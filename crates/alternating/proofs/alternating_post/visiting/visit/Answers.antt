@@ -3,8 +3,8 @@ use Rattle.alternating.specs.Ticks.{store_keeps}
 use Rattle.alternating.specs.VisitsKeep.{visit_keeps}
 use Rattle.alternating.proofs.alternating_post.visiting.visit.Goals as goal
 
-pub invariant-of-post : goal.invariant-of-post
-invariant-of-post g c =
+pub invariant_of-post : goal.invariant_of-post
+invariant_of-post g c =
     let s = c.args.post.now in
     let k = c.args.c in
     let d = c.visited-next.result in

@@ -6,8 +6,8 @@ use Rattle.forks.specs.Diners.{orderly, hungry_written}
 use Rattle.forks.specs.OnePhase.{orderly_hungry}
 use Rattle.forks.proofs.fork_diner.ForkDiner.become_hungry.Goals as goal
 
-pub invariant-of-self : goal.invariant-of-self
-invariant-of-self c =
+pub invariant_of-self : goal.invariant_of-self
+invariant_of-self c =
     let d = c.args.self.now in
     let p = c.args.p in
     let room : p < length d.phases = omega arith in

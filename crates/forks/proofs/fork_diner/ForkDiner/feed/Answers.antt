@@ -6,8 +6,8 @@ use Rattle.forks.specs.Diners.{orderly}
 use Rattle.forks.specs.Turn.{orderly_visited}
 use Rattle.forks.proofs.fork_diner.ForkDiner.feed.Goals as goal
 
-pub invariant-of-self : goal.invariant-of-self
-invariant-of-self c =
+pub invariant_of-self : goal.invariant_of-self
+invariant_of-self c =
     let d = c.args.self.now in
-    let kept = subst Orderly (sym (ap (with_phases (forks d)) c.feed-in-order.ensures.fed)) (orderly_visited (forks d) (orderly d) _) in
-    (c.feed-in-order.ensures.places, (kept.only, (kept.either, (kept.ranked, (kept.apart, tt)))))
+    let kept = subst Orderly (sym (ap (with_phases (forks d)) c.feed_in_order.ensures.fed)) (orderly_visited (forks d) (orderly d) _) in
+    (c.feed_in_order.ensures.places, (kept.only, (kept.either, (kept.ranked, (kept.apart, tt)))))

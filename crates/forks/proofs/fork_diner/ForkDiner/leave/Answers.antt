@@ -6,12 +6,12 @@ use Rattle.forks.specs.Diners.{orderly, done_written}
 use Rattle.forks.specs.Done.{orderly_done}
 use Rattle.forks.proofs.fork_diner.ForkDiner.leave.Goals as goal
 
-pub invariant-of-self : goal.invariant-of-self
-invariant-of-self c =
+pub invariant_of-self : goal.invariant_of-self
+invariant_of-self c =
     let d = c.args.self.now in
     let p = c.args.p in
     let room : p < length d.phases = omega arith in
-    let kept = subst Orderly (sym (done_written d p c.requires.0 c.yield-to-all.new.precedes _ c.drinkers-count.ensures c.yield-to-all.ensures room))
+    let kept = subst Orderly (sym (done_written d p c.requires.0 c.yield_to_all.new.precedes _ c.drinkers-count.ensures c.yield_to_all.ensures room))
     (orderly_done (forks d) (orderly d) p c.requires.0) in
     (length-set d.phases p Thinking ∙ d.places, (kept.only, (kept.either, (kept.ranked, (kept.apart, tt)))))
 
@@ -20,4 +20,4 @@ returns c =
     let d = c.args.self.now in
     let p = c.args.p in
     let room : p < length d.phases = omega arith in
-    done_written d p c.requires.0 c.yield-to-all.new.precedes _ c.drinkers-count.ensures c.yield-to-all.ensures room
+    done_written d p c.requires.0 c.yield_to_all.new.precedes _ c.drinkers-count.ensures c.yield_to_all.ensures room

@@ -7,15 +7,15 @@ use Rattle.forks.proofs.fork_diner.feeding.is_free_to_eat.Goals as goal
 pub loop-q-init : goal.loop-q-init
 loop-q-init c = unblocked_none (forks_of c.args.neighbourhood.now c.args.phases.now c.args.precedes.now) c.args.p
 
-pub returns-then-is-blocked-by : goal.returns-then-is-blocked-by
-returns-then-is-blocked-by c =
+pub returns-then-is_blocked_by : goal.returns-then-is_blocked_by
+returns-then-is_blocked_by c =
     let f = forks_of c.args.neighbourhood.now c.args.phases.now c.args.precedes.now in
-    blocked_eats_not f c.args.p c.loop-q.q (omega (arith, c.drinkers-q-end.ensures)) (sym c.is-blocked-by.ensures ∙ c.if-is-blocked-by.true)
+    blocked_eats_not f c.args.p c.loop-q.q (omega (arith, c.drinkers-q-end.ensures)) (sym c.is_blocked_by.ensures ∙ c.if-is_blocked_by.true)
 
 pub loop-q-preserved : goal.loop-q-preserved
 loop-q-preserved c =
     let f = forks_of c.args.neighbourhood.now c.args.phases.now c.args.precedes.now in
-    unblocked_more f c.args.p c.loop-q.q c.loop-q.invariant (sym c.is-blocked-by.ensures ∙ c.if-is-blocked-by.false)
+    unblocked_more f c.args.p c.loop-q.q c.loop-q.invariant (sym c.is_blocked_by.ensures ∙ c.if-is_blocked_by.false)
 
 pub returns-after-loop-q : goal.returns-after-loop-q
 returns-after-loop-q c =

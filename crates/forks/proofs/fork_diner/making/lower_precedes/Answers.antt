@@ -8,14 +8,14 @@ use Rattle.forks.proofs.fork_diner.making.lower_precedes.Goals as goal
 pub loop-ends-preserved : goal.loop-ends-preserved
 loop-ends-preserved c =
     let g = c.args.graph.now in
-    let es = c.all-ends-ends-items.result.now in
+    let es = c.all_ends-ends-items.result.now in
     let i = c.loop-ends.ends-index in
     let inside : i < length es = omega arith in
-    let ordered = subst (EndsOrdered g.drinkers) (sym c.all-ends-ends-items.ensures) g.ordered i inside in
-    lower_more es i inside ordered.0 (omega (arith, ordered.1)) (related c.loop-ends.precedes) (related c.let-lower-precede.new.precedes) c.loop-ends.invariant c.let-lower-precede.ensures
+    let ordered = subst (EndsOrdered g.drinkers) (sym c.all_ends-ends-items.ensures) g.ordered i inside in
+    lower_more es i inside ordered.0 (omega (arith, ordered.1)) (related c.loop-ends.precedes) (related c.let_lower_precede.new.precedes) c.loop-ends.invariant c.let_lower_precede.ensures
 
 pub returns : goal.returns
 returns c p q =
-    let es = c.all-ends-ends-items.result.now in
+    let es = c.all_ends-ends-items.result.now in
     c.loop-ends.invariant p q
-    ∙ ap (λ xs. neighbours xs p q && ltb p q) (take_all c.loop-ends.ends-index es (omega arith) ∙ c.all-ends-ends-items.ensures)
+    ∙ ap (λ xs. neighbours xs p q && ltb p q) (take_all c.loop-ends.ends-index es (omega arith) ∙ c.all_ends-ends-items.ensures)

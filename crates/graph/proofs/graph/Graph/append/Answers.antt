@@ -5,8 +5,8 @@ use Rattle.graph.specs.Ends.{between, EndsOrdered, PairsOnce}
 use Rattle.graph.proofs.Joins.{ordered_push, once_push}
 use Rattle.graph.proofs.graph.Graph.append.Goals as goal
 
-pub invariant-of-self : goal.invariant-of-self
-invariant-of-self c =
+pub invariant_of-self : goal.invariant_of-self
+invariant_of-self c =
     let g = c.args.self.now in
     let u = c.args.lower in
     let v = c.args.higher in

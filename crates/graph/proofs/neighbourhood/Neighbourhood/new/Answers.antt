@@ -9,12 +9,12 @@ use Rattle.graph.proofs.Handshakes.{handshakes}
 use Rattle.graph.proofs.Sharing.{neighbours_symmetric, neighbours_irreflexive, neighbours_below}
 use Rattle.graph.proofs.neighbourhood.Neighbourhood.new.Goals as goal
 
-pub invariant-of-result : goal.invariant-of-result
-invariant-of-result c =
+pub invariant_of-result : goal.invariant_of-result
+invariant_of-result c =
     let g = c.args.graph.now in
     let es = ends_of g in
-    let table = related c.neighbour-table.result in
-    let same : (p q : ℕ) → table p q ≡ neighbours es p q = c.neighbour-table.ensures in
+    let table = related c.neighbour_table.result in
+    let same : (p q : ℕ) → table p q ≡ neighbours es p q = c.neighbour_table.ensures in
     let below : (p q : ℕ) → table p q ≡ true → q < c.drinkers.result = λ p q h. omega (arith, neighbours_below g.drinkers es g.ordered p q (sym (same p q) ∙ h), c.drinkers.ensures) in
     let back : (p q : ℕ) → table p q ≡ true → table q p ≡ true = λ p q h. same q p ∙ neighbours_symmetric es p q (sym (same p q) ∙ h) in
     let few = subst (λ (t : ℕ → ℕ → _). total (λ p. number (t p) c.drinkers.result) c.drinkers.result ≤ 2 * length es)

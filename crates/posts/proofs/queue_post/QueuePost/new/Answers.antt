@@ -5,5 +5,5 @@ use Rattle.posts.specs.declared.message_list.MessageList.{MessageList}
 use Rattle.posts.specs.declared.message_list.MessageList.TheVariants.{Empty}
 use Rattle.posts.proofs.queue_post.QueuePost.new.Goals as goal
 
-pub invariant-of-result : goal.invariant-of-result
-invariant-of-result c = (refl, ((λ k h. omega (arith, ap (λ q. length (items q)) (get_or-replicate {A = MessageList} 64 k Empty Empty h))), tt))
+pub invariant_of-result : goal.invariant_of-result
+invariant_of-result c = (refl, ((λ k h. omega (arith, ap (λ q. length (items q)) (get_or-replicate {A = MessageList} 64 k Empty Empty h))), tt))

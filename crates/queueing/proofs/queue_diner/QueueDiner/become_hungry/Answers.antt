@@ -23,8 +23,8 @@ place_free d p l thinks = omega (
 pub bounds-self-place : goal.bounds-self-place
 bounds-self-place c = omega (arith, place_free c.args.self.now c.args.p c.requires.0 c.requires.1)
 
-pub invariant-of-self : goal.invariant-of-self
-invariant-of-self c =
+pub invariant_of-self : goal.invariant_of-self
+invariant_of-self c =
     let d = c.args.self.now in
     let p = c.args.p in
     let room = place_free d p c.requires.0 c.requires.1 in (

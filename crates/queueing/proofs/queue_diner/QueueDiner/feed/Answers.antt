@@ -5,14 +5,14 @@ use Rattle.queueing.specs.QueueDiners.{queue}
 use Rattle.queueing.specs.Turning.{orderly_fed}
 use Rattle.queueing.proofs.queue_diner.QueueDiner.feed.Goals as goal
 
-pub invariant-of-self : goal.invariant-of-self
-invariant-of-self c =
+pub invariant_of-self : goal.invariant_of-self
+invariant_of-self c =
     let d = c.args.self.now in (
-      c.feed-unblocked.ensures.room,
+      c.feed_unblocked.ensures.room,
       (
         d.fits,
         (
-          ap (orderly (near d.neighbourhood) d.neighbourhood.drinkers) c.feed-unblocked.ensures.fed
+          ap (orderly (near d.neighbourhood) d.neighbourhood.drinkers) c.feed_unblocked.ensures.fed
               ∙ orderly_fed (near d.neighbourhood) d.neighbourhood.drinkers [] (queue d).entries d.sound,
           tt,
         ),

@@ -5,8 +5,8 @@ use Rattle.queueing.specs.QueueDiners.{queue}
 use Rattle.queueing.specs.Leaving.{orderly_left}
 use Rattle.queueing.proofs.queue_diner.QueueDiner.leave.Goals as goal
 
-pub invariant-of-self : goal.invariant-of-self
-invariant-of-self c =
+pub invariant_of-self : goal.invariant_of-self
+invariant_of-self c =
     let d = c.args.self.now in (
       c.remove-left.ensures.room,
       (

@@ -13,7 +13,7 @@ returns-then-entry-p c =
     let inside : i < length es = omega (arith, length-take-le c.args.waiting c.args.entries.now (omega arith)) in
     let here = get_or-take c.args.waiting c.args.entries.now i no_entry (omega arith) in
     let mine = eq-eqb _ c.args.p (ap (λ e. e.drinker) here ∙ c.if-entry-p.true) in
-    c.phase-in-queue.ensures ∙ sym (sym c.loop-i.invariant ∙ phase_found es i c.args.p inside mine ∙ ap (λ e. cond e.eating Eating Hungry) here)
+    c.phase_in_queue.ensures ∙ sym (sym c.loop-i.invariant ∙ phase_found es i c.args.p inside mine ∙ ap (λ e. cond e.eating Eating Hungry) here)
 
 pub loop-i-preserved : goal.loop-i-preserved
 loop-i-preserved c =

@@ -2,5 +2,5 @@ use Rattle.std.proofs.Common.{ℕ, refl, arith}
 use Rattle.std.proofs.lemmas.List.{get_or-replicate}
 use Rattle.wires.proofs.pattern_wire.making.losing_nothing.Goals as goal
 
-pub invariant-of-result : goal.invariant-of-result
-invariant-of-result c = (refl, (omega arith, (refl, (omega arith, (refl, (omega arith, ((λ l h. omega (arith, get_or-replicate {A = ℕ} 128 l 0 0 h)), tt)))))))
+pub invariant_of-result : goal.invariant_of-result
+invariant_of-result c = (refl, (omega arith, (refl, (omega arith, (refl, (omega arith, ((λ l h. omega (arith, get_or-replicate {A = ℕ} 128 l 0 0 h)), tt)))))))

@@ -4,8 +4,8 @@ use Rattle.wires.specs.Patterns.{leading, longest}
 use Rattle.wires.specs.Runs.{zero_stops}
 use Rattle.wires.proofs.pattern_wire.making.reading_from_the_start.Goals as goal
 
-pub invariant-of-result : goal.invariant-of-result
-invariant-of-result c =
+pub invariant_of-result : goal.invariant_of-result
+invariant_of-result c =
     let p = c.args.pattern.now in
     let usable = c.requires.usable in
     let copied = c.padded.ensures in (
