@@ -21,8 +21,8 @@ kept_elsewhere cs c k d other = get_or-set_other cs c k d unused other
 
 -- All channels stay sound, and there are as many, where a sound one is stored: what the post owes after each change.
 pub store_keeps : (cs : List Channel) (c : ℕ) (d : Channel) → length cs ≡ 64 → ((k : ℕ) → k < 64 → Sound (channel_at cs k)) → c < 64 → Sound d
-    → (length (slice_set cs c d) ≡ 64) × (((k : ℕ) → k < 64 → Sound (channel_at (slice_set cs c d) k)) × Unit {0})
-store_keeps cs c d all sound few its = (length-set cs c d ∙ all, (stay_sound, tt))
+    → (length (slice_set cs c d) ≡ 64) × ((k : ℕ) → k < 64 → Sound (channel_at (slice_set cs c d) k))
+store_keeps cs c d all sound few its = (length-set cs c d ∙ all, stay_sound)
   where
     stay_sound : (k : ℕ) → k < 64 → Sound (channel_at (slice_set cs c d) k)
     stay_sound k h = elim (cases_eq k c) [

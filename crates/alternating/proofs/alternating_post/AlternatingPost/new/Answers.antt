@@ -10,4 +10,7 @@ unused_sound = (omega arith, omega arith)
 
 pub invariant_of-result : goal.invariant_of-result
 invariant_of-result g c =
-    (refl, ((λ k h. subst Sound (sym (get_or-replicate {A = Channel} 64 k c.new.result unused h ∙ c.new.ensures)) unused_sound), tt))
+    record {
+      all = refl;
+      sound = λ k h. subst Sound (sym (get_or-replicate {A = Channel} 64 k c.new.result unused h ∙ c.new.ensures)) unused_sound;
+    }

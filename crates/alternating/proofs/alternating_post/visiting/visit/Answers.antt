@@ -9,4 +9,5 @@ invariant_of-post g c =
     let k = c.args.c in
     let d = c.visited-next.result in
     let kept = visit_keeps g.met.W.Wire.laws k c.requires s.wire (channel_at s.channels k) c.visited-next.new.wire d (s.sound k c.requires) c.visited-next.ensures in
-    store_keeps s.channels k d s.all s.sound c.requires kept.sound
+    let all_kept = store_keeps s.channels k d s.all s.sound c.requires kept.sound in
+    record { all = all_kept.0; sound = all_kept.1 }

@@ -12,7 +12,13 @@ invariant_of-self c =
     let p = c.args.p in
     let room : p < length d.phases = omega arith in
     let kept = subst Orderly (sym (hungry_written d.neighbourhood d.phases d.precedes p room)) (orderly_hungry (forks d) (orderly d) p c.requires.1) in
-    (length-set d.phases p Hungry ∙ d.places, (kept.only, (kept.either, (kept.ranked, (kept.apart, tt)))))
+    record {
+      places = length-set d.phases p Hungry ∙ d.places;
+      only = kept.only;
+      either = kept.either;
+      ranked = kept.ranked;
+      apart = kept.apart;
+    }
 
 pub returns : goal.returns
 returns c =

@@ -10,4 +10,10 @@ pub invariant_of-self : goal.invariant_of-self
 invariant_of-self c =
     let d = c.args.self.now in
     let kept = subst Orderly (sym (ap (with_phases (forks d)) c.feed_in_order.ensures.fed)) (orderly_visited (forks d) (orderly d) _) in
-    (c.feed_in_order.ensures.places, (kept.only, (kept.either, (kept.ranked, (kept.apart, tt)))))
+    record {
+      places = c.feed_in_order.ensures.places;
+      only = kept.only;
+      either = kept.either;
+      ranked = kept.ranked;
+      apart = kept.apart;
+    }

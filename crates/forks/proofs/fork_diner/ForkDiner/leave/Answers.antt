@@ -13,7 +13,13 @@ invariant_of-self c =
     let room : p < length d.phases = omega arith in
     let kept = subst Orderly (sym (done_written d p c.requires.0 c.yield_to_all.new.precedes _ c.drinkers-count.ensures c.yield_to_all.ensures room))
     (orderly_done (forks d) (orderly d) p c.requires.0) in
-    (length-set d.phases p Thinking ∙ d.places, (kept.only, (kept.either, (kept.ranked, (kept.apart, tt)))))
+    record {
+      places = length-set d.phases p Thinking ∙ d.places;
+      only = kept.only;
+      either = kept.either;
+      ranked = kept.ranked;
+      apart = kept.apart;
+    }
 
 pub returns : goal.returns
 returns c =

@@ -12,22 +12,14 @@ invariant_of-self c =
     let v = c.args.higher in
     let old = take g.bottles g.ends in
     let place : g.bottles < length g.ends = omega arith in
-    let grown = sym (take_more_set g.ends g.bottles (between u v) place) in (
-      length-set g.ends g.bottles (between u v) ∙ g.places,
-      (
-        g.some,
-        (
-          g.few,
-          (
-            omega arith,
-            (
-              subst (EndsOrdered g.drinkers) grown (ordered_push old u v g.drinkers g.ordered c.requires.ordered.0 c.requires.ordered.1),
-              (subst PairsOnce grown (once_push old u v g.once (both_ways _ c.requires.fresh)), tt),
-            ),
-          ),
-        ),
-      ),
-    )
+    let grown = sym (take_more_set g.ends g.bottles (between u v) place) in record {
+      places = length-set g.ends g.bottles (between u v) ∙ g.places;
+      some = g.some;
+      few = g.few;
+      room = omega arith;
+      ordered = subst (EndsOrdered g.drinkers) grown (ordered_push old u v g.drinkers g.ordered c.requires.ordered.0 c.requires.ordered.1);
+      once = subst PairsOnce grown (once_push old u v g.once (both_ways _ c.requires.fresh));
+    }
 
 pub returns : goal.returns
 returns c =

@@ -18,22 +18,12 @@ invariant_of-result c =
     let below : (p q : ℕ) → table p q ≡ true → q < c.drinkers.result = λ p q h. omega (arith, neighbours_below g.drinkers es g.ordered p q (sym (same p q) ∙ h), c.drinkers.ensures) in
     let back : (p q : ℕ) → table p q ≡ true → table q p ≡ true = λ p q h. same q p ∙ neighbours_symmetric es p q (sym (same p q) ∙ h) in
     let few = subst (λ (t : ℕ → ℕ → _). total (λ p. number (t p) c.drinkers.result) c.drinkers.result ≤ 2 * length es)
-    (sym (fun_ext (λ p. fun_ext (same p)))) (handshakes es c.drinkers.result) in (
-      omega (arith, c.drinkers.ensures),
-      (
-        omega (arith, c.drinkers.ensures),
-        (
-          omega (arith, c.bottles.ensures, length-take-le g.bottles g.ends (omega arith)),
-          (
-            (λ p q h. (below q p (back p q h), below p q h)),
-            (
-              back,
-              (
-                (λ p h. neighbours_irreflexive g.drinkers es g.ordered p (sym (same p p) ∙ h)),
-                (omega (arith, few, c.bottles.ensures), tt),
-              ),
-            ),
-          ),
-        ),
-      ),
-    )
+    (sym (fun_ext (λ p. fun_ext (same p)))) (handshakes es c.drinkers.result) in record {
+      some = omega (arith, c.drinkers.ensures);
+      few = omega (arith, c.drinkers.ensures);
+      room = omega (arith, c.bottles.ensures, length-take-le g.bottles g.ends (omega arith));
+      known = λ p q h. (below q p (back p q h), below p q h);
+      symmetric = back;
+      irreflexive = λ p h. neighbours_irreflexive g.drinkers es g.ordered p (sym (same p p) ∙ h);
+      sparse = omega (arith, few, c.bottles.ensures);
+    }

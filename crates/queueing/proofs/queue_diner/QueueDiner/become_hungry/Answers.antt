@@ -27,17 +27,12 @@ pub invariant_of-self : goal.invariant_of-self
 invariant_of-self c =
     let d = c.args.self.now in
     let p = c.args.p in
-    let room = place_free d p c.requires.0 c.requires.1 in (
-      length-set d.entries d.waiting (hungry_entry p) ∙ d.room,
-      (
-        omega (arith, room),
-        (
-          ap (orderly (near d.neighbourhood) d.neighbourhood.drinkers) (take_more_set d.entries d.waiting (hungry_entry p) room)
-              ∙ orderly_joined p (near d.neighbourhood) d.neighbourhood.drinkers c.requires.0 (queue d).entries d.sound (no_entry_where_thinking (queue d).entries p c.requires.1),
-          tt,
-        ),
-      ),
-    )
+    let room = place_free d p c.requires.0 c.requires.1 in record {
+      room = length-set d.entries d.waiting (hungry_entry p) ∙ d.room;
+      fits = omega (arith, room);
+      sound = ap (orderly (near d.neighbourhood) d.neighbourhood.drinkers) (take_more_set d.entries d.waiting (hungry_entry p) room)
+          ∙ orderly_joined p (near d.neighbourhood) d.neighbourhood.drinkers c.requires.0 (queue d).entries d.sound (no_entry_where_thinking (queue d).entries p c.requires.1);
+    }
 
 pub returns : goal.returns
 returns c =

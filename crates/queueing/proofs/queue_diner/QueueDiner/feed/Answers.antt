@@ -7,14 +7,9 @@ use Rattle.queueing.proofs.queue_diner.QueueDiner.feed.Goals as goal
 
 pub invariant_of-self : goal.invariant_of-self
 invariant_of-self c =
-    let d = c.args.self.now in (
-      c.feed_unblocked.ensures.room,
-      (
-        d.fits,
-        (
-          ap (orderly (near d.neighbourhood) d.neighbourhood.drinkers) c.feed_unblocked.ensures.fed
-              ∙ orderly_fed (near d.neighbourhood) d.neighbourhood.drinkers [] (queue d).entries d.sound,
-          tt,
-        ),
-      ),
-    )
+    let d = c.args.self.now in record {
+      room = c.feed_unblocked.ensures.room;
+      fits = d.fits;
+      sound = ap (orderly (near d.neighbourhood) d.neighbourhood.drinkers) c.feed_unblocked.ensures.fed
+          ∙ orderly_fed (near d.neighbourhood) d.neighbourhood.drinkers [] (queue d).entries d.sound;
+    }

@@ -7,14 +7,9 @@ use Rattle.queueing.proofs.queue_diner.QueueDiner.leave.Goals as goal
 
 pub invariant_of-self : goal.invariant_of-self
 invariant_of-self c =
-    let d = c.args.self.now in (
-      c.remove-left.ensures.room,
-      (
-        omega (arith, c.remove-left.ensures.few),
-        (
-          ap (orderly (near d.neighbourhood) d.neighbourhood.drinkers) c.remove-left.ensures.left
-              ∙ orderly_left _ (near d.neighbourhood) d.neighbourhood.drinkers (queue d).entries d.sound,
-          tt,
-        ),
-      ),
-    )
+    let d = c.args.self.now in record {
+      room = c.remove-left.ensures.room;
+      fits = omega (arith, c.remove-left.ensures.few);
+      sound = ap (orderly (near d.neighbourhood) d.neighbourhood.drinkers) c.remove-left.ensures.left
+          ∙ orderly_left _ (near d.neighbourhood) d.neighbourhood.drinkers (queue d).entries d.sound;
+    }

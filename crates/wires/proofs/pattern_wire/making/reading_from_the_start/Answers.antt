@@ -8,19 +8,12 @@ pub invariant_of-result : goal.invariant_of-result
 invariant_of-result c =
     let p = c.args.pattern.now in
     let usable = c.requires.usable in
-    let copied = c.padded.ensures in (
-      ap length copied,
-      (
-        usable.at_most_sixty_four,
-        (
-          refl,
-          (
-            omega (arith, ap leading copied, zero_stops p usable),
-            (
-              c.requires.known ∙ sym (ap longest copied),
-              (omega (arith, usable.at_most_seven_in_a_row, c.requires.known), ((λ l h. omega (arith, get_or-replicate {A = ℕ} 128 l 0 0 h, usable.at_least_one)), tt)),
-            ),
-          ),
-        ),
-      ),
-    )
+    let copied = c.padded.ensures in record {
+      filled = ap length copied;
+      fits = usable.at_most_sixty_four;
+      lines = refl;
+      stops = omega (arith, ap leading copied, zero_stops p usable);
+      known = c.requires.known ∙ sym (ap longest copied);
+      few = omega (arith, usable.at_most_seven_in_a_row, c.requires.known);
+      within = λ l h. omega (arith, get_or-replicate {A = ℕ} 128 l 0 0 h, usable.at_least_one);
+    }

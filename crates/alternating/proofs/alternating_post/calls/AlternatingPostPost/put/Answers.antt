@@ -15,4 +15,5 @@ invariant_of-self g c =
     let its = c.in_ok-found.ensures.1 in
     let room = room_in ch found c.has_room.result its c.has_room.ensures c.if-not-has_room.false in
     let sound = sound_after (after_put c.args.message) ch found d its c.put.ensures (put_sound c.args.message ch (s.sound k few) room) in
-    store_keeps s.channels k d s.all s.sound few sound
+    let all_kept = store_keeps s.channels k d s.all s.sound few sound in
+    record { all = all_kept.0; sound = all_kept.1 }

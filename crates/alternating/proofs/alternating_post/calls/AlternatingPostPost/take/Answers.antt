@@ -13,4 +13,5 @@ invariant_of-self g c =
     let d = c.taken.result in
     let few = c.in_ok-found.ensures.0 in
     let its = c.in_ok-found.ensures.1 in
-    store_keeps s.channels k d s.all s.sound few (sound_after after_take ch found d its c.taken.ensures (take_sound ch (s.sound k few)))
+    let all_kept = store_keeps s.channels k d s.all s.sound few (sound_after after_take ch found d its c.taken.ensures (take_sound ch (s.sound k few))) in
+    record { all = all_kept.0; sound = all_kept.1 }
