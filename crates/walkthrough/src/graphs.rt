@@ -1,14 +1,15 @@
 // Building a graph, with every answer shown.
-use crate::refused::show_refusal;
 use graph::Graph;
 use sets::Set;
 use std::io;
 
 fn join(rt: &HostRuntime, graph: &mut Graph, lower: usize, higher: usize) -> io::Result<()> {
-    print!(rt; "  join {lower} {higher}: ")?;
     match graph.join(lower, higher) {
-        Ok(bottle) => println!(rt; "bottle {bottle}"),
-        Err(refusal) => show_refusal(rt, refusal),
+        Ok(bottle) => println!(rt; "  join {lower} {higher}: bottle {bottle}"),
+        Err(refusal) => {
+            let number = refusal.number();
+            println!(rt; "  join {lower} {higher}: refused with {number} ({refusal:?})")
+        }
     }
 }
 

@@ -1,4 +1,4 @@
-// A walk through the library: a graph is built, both diners take every drinker from hungry to done, and messages go over a wire that loses frames.
+// A walk through the library: a graph is built, and both diners take every drinker from hungry to done.
 #![tactic(auto)]
 
 use dining::Diner;
@@ -6,22 +6,18 @@ use forks::ForkDiner;
 use graph::Graph;
 use queueing::QueueDiner;
 
-mod deliveries;
 mod graphs;
 mod meals;
-mod refused;
 
-use deliveries::send_two;
 use graphs::{join_all, show_drinkers};
 use meals::serve_all;
-use refused::show_refusal;
 
 fn walk(rt: &HostRuntime) -> anyhow::Result<()> {
     println!(rt; "a graph of five drinkers")?;
     let mut graph = match Graph::new(5) {
         Ok(graph) => graph,
         Err(refusal) => {
-            show_refusal(rt, refusal)?;
+            println!(rt; "  refused with {} ({refusal:?})", refusal.number())?;
             return Ok(());
         }
     };
@@ -33,8 +29,6 @@ fn walk(rt: &HostRuntime) -> anyhow::Result<()> {
     serve_all(rt, &mut ForkDiner::new(&graph), &order)?;
     println!(rt; "the queue diner")?;
     serve_all(rt, &mut QueueDiner::new(&graph), &order)?;
-    println!(rt; "two messages over a wire that loses two frames of three")?;
-    send_two(rt)?;
     Ok(())
 }
 

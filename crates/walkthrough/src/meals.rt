@@ -1,14 +1,15 @@
 // Meals at any diner, with every answer shown.
-use crate::refused::show_refusal;
 use dining::{Diner, Phase, pass_on};
 use refusals::Refusal;
 use std::io;
 
 fn show(rt: &HostRuntime, call: &str, p: usize, answer: Result<(), Refusal>) -> io::Result<()> {
-    print!(rt; "  {call} {p}: ")?;
     match answer {
-        Ok(()) => println!(rt; "granted"),
-        Err(refusal) => show_refusal(rt, refusal),
+        Ok(()) => println!(rt; "  {call} {p}: granted"),
+        Err(refusal) => {
+            let number = refusal.number();
+            println!(rt; "  {call} {p}: refused with {number} ({refusal:?})")
+        }
     }
 }
 
