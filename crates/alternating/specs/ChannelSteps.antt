@@ -1,5 +1,5 @@
 -- What the steps of the protocol do to what waits in a channel: only a put and a take change it.
-use Rattle.std.specs.Prelude.{◌≡◌, ℕ, ◌+◌, ◌<◌, ◌≤◌, Bool, true, false, cond, not, ltb, ◌⊎◌, List, [], ◌∷◌, ◌++◌, length, Some, None, Option, nat_lt, refl}
+use Rattle.std.specs.Prelude.{◌≡◌, ℕ, ◌+◌, ◌<◌, ◌≤◌, Bool, true, false, cond, not, ltb, ◌⊎◌, [], ◌∷◌, ◌++◌, length, Some, None, Option, nat_lt, refl}
 use Rattle.std.proofs.Common.{sym, ap, subst, ◌∙◌, append_assoc, inl, inr, arith, ltb-true, length-append}
 use Rattle.alternating_bit.specs.declared.channel.Channel.{Channel}
 use Rattle.alternating.specs.AlternatingPosts.{unless_arrived}

@@ -1,6 +1,6 @@
 -- How the due of a channel goes on: it is within the lag, 0 exactly when something has arrived, and falls at each visit.
 -- In the names, k is the bound of the wire, g and h are the graces of the line there and the line back, and a prime marks what is so after the visit.
-use Rattle.std.specs.Prelude.{◌≡◌, ℕ, ◌+◌, ◌-◌, ◌*◌, ◌<◌, ◌≤◌, Bool, true, false, cond, ◌≢◌, ◌⊎◌, [], ◌++◌, Some, None, refl}
+use Rattle.std.specs.Prelude.{◌≡◌, ℕ, ◌+◌, ◌-◌, ◌*◌, ◌<◌, ◌≤◌, Bool, true, false, cond, ◌≢◌, [], ◌++◌, Some, None, refl}
 use Rattle.std.proofs.Common.{ap, subst, inl, inr, mul-le-mul, mul-le-mul_right, add-mul, mul_comm, arith}
 use Rattle.alternating_bit.specs.declared.channel.Channel.{Channel}
 use Rattle.alternating.specs.AlternatingPosts.{unless_arrived, due_in}

@@ -1,10 +1,10 @@
 -- The laws of an alternating post, from those of its wire.
-use Rattle.std.specs.Prelude.{◌≡◌, ℕ, ◌+◌, ◌*◌, ◌<◌, ◌≢◌, ◌⊎◌, List, ◌∷◌, length, Some, None, Option, slice_set, refl}
+use Rattle.std.specs.Prelude.{◌≡◌, ℕ, ◌+◌, ◌*◌, ◌<◌, ◌∷◌, length, Some, None, Option, slice_set, refl}
 use Rattle.std.proofs.Common.{sym, ap, subst, ◌∙◌, inl, inr, arith}
 use Rattle.std.proofs.lemmas.Bool.{cases_eq}
 use Rattle.alternating.specs.declared.alternating_post.AlternatingPost.{AlternatingPost}
 use Rattle.alternating_bit.specs.declared.channel.Channel.{Channel}
-use Rattle.alternating.specs.AlternatingPosts.{channel_at, due_in, alternating_meaning, AlternatingPut, AlternatingTake}
+use Rattle.alternating.specs.AlternatingPosts.{channel_at, alternating_meaning, AlternatingPut, AlternatingTake}
 use Rattle.alternating_bit.specs.Channels.{waiting_in, after_put, after_take}
 use Rattle.alternating.specs.Visits.{VisitedBelow}
 use Rattle.alternating.specs.ChannelSteps.{put_list, take_list}
@@ -13,7 +13,7 @@ use Rattle.alternating.specs.Ticks.{changed_here, kept_elsewhere, ticked}
 use Rattle.alternating.specs.VisitsKeep.{due_over_wire}
 use Rattle.posts.specs.Laws.{ChannelKept, SamePost, OthersKept, LawfulPut, LawfulTakeAnswer, LawfulTick}
 use Rattle.posts.specs.MessageLists.{first_of, rest_of}
-use Rattle.posts.specs.Posting.{Posting, Busy, Lawful}
+use Rattle.posts.specs.Posting.{Posting, Lawful}
 use Rattle.posts.proofs.MessageLists.{empty_without_first}
 use Rattle.wires.specs.declared.frame.Frame.{Frame}
 use Rattle.wires.specs.declared.message.Message.{Message}

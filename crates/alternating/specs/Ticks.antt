@@ -1,5 +1,5 @@
 -- What a tick does to all channels, by its visits one after the other.
-use Rattle.std.specs.Prelude.{◌≡◌, ℕ, ◌+◌, ◌-◌, ◌*◌, ◌<◌, ◌≤◌, ◌≢◌, ◌⊎◌, List, [], length, Option, slice_set, refl}
+use Rattle.std.specs.Prelude.{◌≡◌, ℕ, ◌+◌, ◌-◌, ◌*◌, ◌<◌, ◌≤◌, ◌≢◌, List, [], length, Option, slice_set, refl}
 use Rattle.std.proofs.Common.{sym, ap, subst, ◌∙◌, inl, inr, arith, length-set}
 use Rattle.std.proofs.lemmas.List.{get_or-set_same, get_or-set_other}
 use Rattle.std.proofs.lemmas.Bool.{cases_eq, cases_lt}
@@ -8,7 +8,7 @@ use Rattle.alternating.specs.AlternatingPosts.{channel_at}
 use Rattle.alternating_bit.specs.Channels.{unused, waiting_in}
 use Rattle.alternating.specs.Soundness.{Sound}
 use Rattle.alternating.specs.Visits.{Visited, VisitedBelow, none_yet, one_more}
-use Rattle.alternating.specs.VisitsKeep.{due_over_wire, due_same, Kept, visit_keeps}
+use Rattle.alternating.specs.VisitsKeep.{due_over_wire, due_same, visit_keeps}
 use Rattle.wires.specs.declared.frame.Frame.{Frame}
 use Rattle.wires.specs.Wiring.{Wiring, WireLaws, lines}
 

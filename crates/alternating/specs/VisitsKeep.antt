@@ -1,9 +1,9 @@
 -- What a visit does to one channel: nothing that waits changes, and its due falls. Of the wire, only the graces of its two lines change.
-use Rattle.std.specs.Prelude.{◌≡◌, ℕ, ◌+◌, ◌-◌, ◌*◌, ◌<◌, ◌≤◌, Bool, ◌≢◌, ◌⊎◌, [], length, Some, None, Option, refl}
+use Rattle.std.specs.Prelude.{◌≡◌, ℕ, ◌+◌, ◌-◌, ◌*◌, ◌<◌, ◌≤◌, ◌≢◌, [], length, Some, None, Option}
 use Rattle.std.proofs.Common.{sym, ap, subst, ◌∙◌, ⊎_elim, arith}
 use Rattle.alternating_bit.specs.declared.channel.Channel.{Channel}
 use Rattle.alternating.specs.AlternatingPosts.{due_in}
-use Rattle.alternating_bit.specs.Channels.{first_has_arrived, waiting_in, frame_of, acknowledgement, after_frame, after_acknowledgement}
+use Rattle.alternating_bit.specs.Channels.{waiting_in, frame_of, after_frame, after_acknowledgement}
 use Rattle.alternating.specs.Soundness.{Sound}
 use Rattle.alternating.specs.Visits.{Acknowledging, acknowledgement_lost, acknowledgement_through, Visit, nothing_to_send, message_lost, message_through}
 use Rattle.alternating.specs.ChannelSteps.{frame_shows, no_frame_shows, Heard, heard, acknowledged_bit, acknowledged_list, sound_before_arrival, sound_with_first}

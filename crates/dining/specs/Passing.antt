@@ -1,5 +1,5 @@
 -- What `pass_on` does at any diner, exactly, and what its user sees of that: an eating drinker is done, and one turn follows.
-use Rattle.std.specs.Prelude.{◌≡◌, ℕ, ◌<◌, ◌≢◌}
+use Rattle.std.specs.Prelude.{ℕ, ◌<◌, ◌≢◌}
 use Rattle.dining.specs.declared.phase.Phase.TheVariants.{Thinking, Hungry, Eating}
 use Rattle.dining.specs.Dining.{Dining, IsIn, Holds}
 use Rattle.dining.specs.Laws.{StaysHungry}

@@ -7,7 +7,6 @@ use Rattle.std.proofs.lemmas.Bool.Decides.{nat_tests}
 use Rattle.dining.specs.declared.phase.Phase.TheVariants.{Thinking}
 use Rattle.graph.specs.declared.ends.Ends.{Ends}
 use Rattle.graph.specs.declared.graph.Graph.{Graph}
-use Rattle.graph.specs.Counting.{number}
 use Rattle.graph.specs.Ends.{between, end_at, joins, neighbours}
 use Rattle.graph.specs.Graphs.{ends_of}
 use Rattle.graph.specs.declared.neighbourhood.Neighbourhood.{Neighbourhood}

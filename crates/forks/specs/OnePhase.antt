@@ -1,5 +1,5 @@
 -- One drinker changes its phase: to hungry from thinking, or to eating when nobody keeps it from that. No share rises.
-use Rattle.std.specs.Prelude.{◌≡◌, ℕ, ◌<◌, ◌≤◌, true, ◌&&◌, ◌⊎◌, ◌≢◌, refl}
+use Rattle.std.specs.Prelude.{◌≡◌, ℕ, ◌<◌, ◌≤◌, true, ◌&&◌, ◌≢◌, refl}
 use Rattle.std.proofs.Math.Logic.{inl, inr}
 use Rattle.std.proofs.Common.{⊎_elim}
 use native.Mathlib.Omega.{arith}

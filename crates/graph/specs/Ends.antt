@@ -1,5 +1,5 @@
 -- The ends of bottles, as a list: bottle b is the element at place b. Drinkers that share a bottle are neighbours.
-use Rattle.std.specs.Prelude.{◌≡◌, ℕ, ◌<◌, Bool, false, ◌&&◌, ◌||◌, List, [], ◌∷◌, length, ◌==◌, ◌≢◌, nat_lt, slice_index_or}
+use Rattle.std.specs.Prelude.{ℕ, ◌<◌, Bool, false, ◌&&◌, ◌||◌, List, [], ◌∷◌, length, ◌==◌, ◌≢◌, nat_lt, slice_index_or}
 use Rattle.graph.specs.declared.ends.Ends.{Ends}
 
 abbrev pub between : ℕ → ℕ → Ends

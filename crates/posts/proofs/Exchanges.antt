@@ -1,9 +1,9 @@
 -- Lists of calls on any post: order and time, from the laws of its meaning alone.
-use Rattle.std.proofs.Common.{◌≡◌, ℕ, ◌+◌, ◌-◌, ◌<◌, ◌≤◌, Bool, true, false, cond, eqb, ◌≢◌, ◌⊎◌, List, [], ◌∷◌, ◌++◌, Some, None, Ok, Err, Option, Result, sym, refl, ap, ◌∙◌, subst, inl, inr, append_assoc, append-nil, arith, eqb-true}
+use Rattle.std.proofs.Common.{◌≡◌, ℕ, ◌-◌, ◌<◌, ◌≤◌, Bool, true, false, cond, eqb, ◌≢◌, List, [], ◌∷◌, ◌++◌, Some, None, Ok, Err, Option, sym, refl, ap, ◌∙◌, subst, append_assoc, append-nil, arith, eqb-true}
 use borrow.Author.Tests.{eqb-false}
 use Rattle.posts.specs.Exchange.{Step, Happened, put_by, put_into, taken_by, taken_from, ticks_by, ticks_in, InOrder, InTime, NeverLate}
 use Rattle.posts.specs.Laws.{PostLaws, ChannelKept, SamePost, LawfulPut, LawfulTake, LawfulTick}
-use Rattle.posts.specs.Posting.{Posting, Busy, Ready}
+use Rattle.posts.specs.Posting.{Posting, Busy}
 use Rattle.posts.specs.declared.event.PostEvent.{PostEvent}
 use Rattle.posts.specs.declared.event.PostEvent.TheVariants.{Put, Take, Tick}
 use Rattle.wires.specs.declared.message.Message.{Message}

@@ -1,5 +1,5 @@
 -- What each call of a post may do to its meaning: which list changes, and how the dues go on.
-use Rattle.std.specs.Prelude.{◌≡◌, ℕ, ◌-◌, ◌<◌, ◌≤◌, ◌≢◌, ◌⊎◌, List, [], ◌∷◌, ◌++◌, length, Some, None, Option}
+use Rattle.std.specs.Prelude.{◌≡◌, ℕ, ◌-◌, ◌<◌, ◌≤◌, ◌≢◌, [], ◌∷◌, ◌++◌, length, Some, None, Option}
 use Rattle.posts.specs.Posting.{Posting, Busy, Ready, Lawful}
 use Rattle.wires.specs.declared.message.Message.{Message}
 

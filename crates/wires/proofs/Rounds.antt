@@ -1,12 +1,12 @@
 -- The longest run of 1, in the words of a pattern that is read round and round: so many digits in a row are 1 somewhere, and no more anywhere.
-use Rattle.std.proofs.Common.{◌≡◌, ℕ, zero, suc, ◌+◌, ◌-◌, ◌%◌, ◌<◌, ◌≤◌, Bool, true, false, cond, eqb, ◌≢◌, ◌⊎◌, List, [], ◌∷◌, ◌++◌, length, get_or, drop, IfOk, Ok, Err, Result, sym, refl, ap, ◌∙◌, subst, inl, inr, mod-eq_of_lt, one-add, arith, length-append, length-drop, eqb-true}
+use Rattle.std.proofs.Common.{◌≡◌, ℕ, zero, suc, ◌+◌, ◌-◌, ◌%◌, ◌<◌, ◌≤◌, Bool, true, false, cond, eqb, ◌≢◌, List, [], ◌∷◌, ◌++◌, length, get_or, drop, IfOk, Ok, Err, Result, sym, refl, ap, ◌∙◌, subst, inl, inr, mod-eq_of_lt, one-add, arith, length-append, length-drop, eqb-true}
 use native.Mathlib.Nat.{mod-eq-sub-mod}
 use borrow.Author.Tests.{eqb-false}
 use Rattle.std.proofs.lemmas.List.{get_or_append_left, get_or-append_right, get_or-drop}
 use Rattle.std.proofs.lemmas.Bool.{cases_lt}
 use Rattle.wires.specs.Patterns.{leading, run, greatest, longest, digit_after, Usable, Checked, LongestRun}
 use Rattle.refusals.specs.declared.Refusal.{Refusal}
-use Rattle.wires.specs.Runs.{leading_stops, leading_goes_on, leading_at_most_all, zero_stops, run_at_most_longest}
+use Rattle.wires.specs.Runs.{leading_stops, leading_goes_on, zero_stops, run_at_most_longest}
 
 -- The digits that are counted are 1, and the one behind them is not.
 one_of_the_leading : (d : ℕ) (ds : List ℕ) (one : Bool) (i : ℕ) → eqb d 49 ≡ one → ((j : ℕ) → j < leading ds → get_or ds j 0 ≡ 49) → i < cond one (1 + leading ds) 0 → get_or (d ∷ ds) i 0 ≡ 49

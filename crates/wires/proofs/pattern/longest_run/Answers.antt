@@ -1,4 +1,4 @@
-use Rattle.std.proofs.Common.{sym, ◌∙◌, arith}
+use Rattle.std.proofs.Common.{arith}
 use Rattle.wires.specs.Patterns.{run}
 use Rattle.wires.specs.Runs.{greatest_more}
 use Rattle.wires.proofs.pattern.longest_run.Goals as goal

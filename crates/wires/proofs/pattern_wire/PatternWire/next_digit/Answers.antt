@@ -1,4 +1,4 @@
-use Rattle.std.proofs.Common.{sym, arith}
+use Rattle.std.proofs.Common.{sym}
 use Rattle.std.proofs.lemmas.List.{get_or-take}
 use Rattle.wires.proofs.pattern_wire.PatternWire.next_digit.Goals as goal
 
