@@ -1,3 +1,4 @@
+-- The laws of the pattern wire: what it loses lowers the grace of that line alone, and every grace is within the bound.
 use Rattle.std.specs.Prelude.{◌≡◌, ℕ, ◌<◌, Bool, true, false, cond, ◌≢◌, ◌⊎◌, length, Some, None, Option}
 use Rattle.std.proofs.Common.{ap, ◌∙◌, inl, inr, arith}
 use Rattle.std.proofs.lemmas.List.{get_or-set_same, get_or-set_other}
