@@ -3,7 +3,7 @@ use Rattle.std.specs.Prelude.{◌≡◌, ℕ, ◌+◌, ◌*◌, ◌<◌, cond, L
 use Rattle.alternating_bit.specs.declared.channel.Channel.{Channel}
 use Rattle.alternating_bit.specs.Channels.{unused, first_has_arrived, waiting_in, frame_of, after_put, after_take}
 use Rattle.posts.specs.Answers.{NoSuchChannel}
-use Rattle.posts.specs.MessageLists.{first_of}
+use Rattle.posts.specs.MessageLists.{oldest_of}
 use Rattle.posts.specs.Posting.{Posting}
 use Rattle.posts.specs.declared.message_list.MessageList.{MessageList}
 use Rattle.posts.specs.declared.message_list.MessageList.TheVariants.{Empty, One, Two, Three}
@@ -41,7 +41,7 @@ abbrev pub AlternatingPut : {W : Type 0} → W → List Channel → ℕ → Mess
 AlternatingPut w cs c m v ds = (v ≡ w) × (ds ≡ slice_set cs c (after_put m (channel_at cs c)))
 
 abbrev pub AlternatingTake : {W : Type 0} → W → List Channel → ℕ → Option Message → W → List Channel → Type 0
-AlternatingTake w cs c came v ds = (v ≡ w) × (ds ≡ slice_set cs c (after_take (channel_at cs c))) × (came ≡ first_of (channel_at cs c).arrived)
+AlternatingTake w cs c came v ds = (v ≡ w) × (ds ≡ slice_set cs c (after_take (channel_at cs c))) × (came ≡ oldest_of (channel_at cs c).arrived)
 
 -- the state of a channel that there is
 abbrev pub ChannelAnswer : List Channel → ℕ → Result Channel Refusal → Type 0

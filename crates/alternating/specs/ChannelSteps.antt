@@ -5,7 +5,7 @@ use Rattle.alternating_bit.specs.declared.channel.Channel.{Channel}
 use Rattle.alternating.specs.AlternatingPosts.{unless_arrived}
 use Rattle.alternating_bit.specs.Channels.{differ, first_has_arrived, to_arrive, waiting_in, framed, frame_of, after_put, after_take, after_arrival, after_frame, after_acknowledgement}
 use Rattle.alternating.specs.Soundness.{Sound}
-use Rattle.posts.specs.MessageLists.{items, first_of, rest_of, with_last}
+use Rattle.posts.specs.MessageLists.{items, oldest_of, rest_of, with_last}
 use Rattle.posts.specs.declared.message_list.MessageList.{MessageList}
 use Rattle.posts.specs.declared.message_list.MessageList.TheVariants.{Empty, One, Two, Three}
 use Rattle.posts.proofs.MessageLists.{last_is_behind, last_is_behind_the_rest, first_and_rest, rest_is_one_less}
@@ -35,15 +35,15 @@ framed_shows : (bit : Bool) (o : Option Message) (f : Frame) → framed bit o �
 framed_shows bit (Some m) f e = (m, refl, cc)
 framed_shows bit None f e = let z : ◌≡◌ {A = ℕ} 0 1 = cc in absurd (omega arith)
 
-pub frame_shows : (ch : Channel) (f : Frame) → frame_of ch ≡ Some f → (m : Message) × (first_of ch.outgoing ≡ Some m) × (f ≡ record { bit = ch.bit; payload = Data m })
-frame_shows ch f e = framed_shows ch.bit (first_of ch.outgoing) f e
+pub frame_shows : (ch : Channel) (f : Frame) → frame_of ch ≡ Some f → (m : Message) × (oldest_of ch.outgoing ≡ Some m) × (f ≡ record { bit = ch.bit; payload = Data m })
+frame_shows ch f e = framed_shows ch.bit (oldest_of ch.outgoing) f e
 
 framed_none : (bit : Bool) (o : Option Message) → framed bit o ≡ None → o ≡ None
 framed_none bit None e = refl
 framed_none bit (Some m) e = let z : ◌≡◌ {A = ℕ} 0 1 = cc in absurd (omega arith)
 
-pub no_frame_shows : (ch : Channel) → frame_of ch ≡ None → first_of ch.outgoing ≡ None
-no_frame_shows ch e = framed_none ch.bit (first_of ch.outgoing) e
+pub no_frame_shows : (ch : Channel) → frame_of ch ≡ None → oldest_of ch.outgoing ≡ None
+no_frame_shows ch e = framed_none ch.bit (oldest_of ch.outgoing) e
 
 -- A channel once its frame has come through, perhaps again: the first outgoing message has arrived, and what waits is the same.
 -- Either it had arrived before, or now something has arrived.
@@ -62,7 +62,7 @@ new_is_there (Three x y z) m n = refl
 arrived_few : (ch : Channel) → Sound ch → length (items ch.arrived) < 3
 arrived_few ch sound = omega (arith, sound.0, length-append (items ch.arrived) (items (to_arrive ch)))
 
-heard_by_bit : (ch : Channel) (m : Message) (before : Bool) → first_has_arrived ch ≡ before → Sound ch → first_of ch.outgoing ≡ Some m → Heard ch (cond before ch (after_arrival m ch))
+heard_by_bit : (ch : Channel) (m : Message) (before : Bool) → first_has_arrived ch ≡ before → Sound ch → oldest_of ch.outgoing ≡ Some m → Heard ch (cond before ch (after_arrival m ch))
 heard_by_bit ch m true e sound first = record { has_arrived = e; same_outgoing = refl; same_list = refl; again_or_new = inl (e, refl) }
 heard_by_bit ch m false e sound first =
     let a = ch.arrived in
@@ -117,7 +117,7 @@ put_sound m ch sound room = (
 )
 
 -- A take takes the oldest message away.
-pub take_list : (m : Message) (ch : Channel) → first_of ch.arrived ≡ Some m → waiting_in ch ≡ m ∷ waiting_in (after_take ch)
+pub take_list : (m : Message) (ch : Channel) → oldest_of ch.arrived ≡ Some m → waiting_in ch ≡ m ∷ waiting_in (after_take ch)
 take_list m ch first = ap (λ xs. xs ++ items (to_arrive ch)) (first_and_rest ch.arrived m first)
 
 rest_is_not_more : (l : MessageList) → length (items (rest_of l)) ≤ length (items l)
@@ -153,5 +153,5 @@ at_most_one : (b : Bool) → cond b 1 0 ≤ 1
 at_most_one true = omega arith
 at_most_one false = omega arith
 
-pub sound_with_first : (ch : Channel) (m : Message) → length (waiting_in ch) ≤ 2 → first_of ch.outgoing ≡ Some m → Sound ch
+pub sound_with_first : (ch : Channel) (m : Message) → length (waiting_in ch) ≤ 2 → oldest_of ch.outgoing ≡ Some m → Sound ch
 sound_with_first ch m few first = (few, omega (arith, at_most_one (first_has_arrived ch), ap length (first_and_rest ch.outgoing m first)))

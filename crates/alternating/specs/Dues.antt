@@ -6,7 +6,7 @@ use Rattle.alternating_bit.specs.declared.channel.Channel.{Channel}
 use Rattle.alternating.specs.AlternatingPosts.{unless_arrived, due_in}
 use Rattle.alternating_bit.specs.Channels.{first_has_arrived, waiting_in, after_acknowledgement}
 use Rattle.alternating.specs.ChannelSteps.{Heard, acknowledged_bit}
-use Rattle.posts.specs.MessageLists.{items, first_of, rest_of}
+use Rattle.posts.specs.MessageLists.{items, oldest_of, rest_of}
 use Rattle.posts.specs.declared.message_list.MessageList.{MessageList}
 use Rattle.posts.specs.declared.message_list.MessageList.TheVariants.{Empty, One, Two, Three}
 use Rattle.posts.proofs.MessageLists.{empty_without_first}
@@ -50,10 +50,10 @@ pub due_within_lag : (k g h : ℕ) (ch : Channel) → g ≤ k → h ≤ k → du
 due_within_lag k g h ch there back = unless_within ch.arrived _ _ (wait_within_lag k g h (first_has_arrived ch) there back)
 
 -- 0 where something has arrived, and only there.
-pub due_over : (k g h : ℕ) (ch : Channel) (m : Message) → first_of ch.arrived ≡ Some m → due_in k g h ch ≡ 0
+pub due_over : (k g h : ℕ) (ch : Channel) (m : Message) → oldest_of ch.arrived ≡ Some m → due_in k g h ch ≡ 0
 due_over k g h ch m first = over ch.arrived (wait k g h (first_has_arrived ch)) first
   where
-    over : (a : MessageList) (n : ℕ) → first_of a ≡ Some m → unless_arrived a n ≡ 0
+    over : (a : MessageList) (n : ℕ) → oldest_of a ≡ Some m → unless_arrived a n ≡ 0
     over Empty n e = let z : ◌≡◌ {A = ℕ} 0 1 = cc in absurd (omega arith)
     over (One x) n e = omega arith
     over (Two x y) n e = omega arith
@@ -63,7 +63,7 @@ wait_is_some : (k g h : ℕ) (before : Bool) → 1 ≤ wait k g h before
 wait_is_some k g h true = omega arith
 wait_is_some k g h false = omega arith
 
-pub due_not_over : (k g h : ℕ) (ch : Channel) → first_of ch.arrived ≡ None → due_in k g h ch ≢ 0
+pub due_not_over : (k g h : ℕ) (ch : Channel) → oldest_of ch.arrived ≡ None → due_in k g h ch ≢ 0
 due_not_over k g h ch none over =
     omega (arith, over, ap (λ a. unless_arrived a (wait k g h (first_has_arrived ch))) (empty_without_first ch.arrived none), wait_is_some k g h (first_has_arrived ch))
 
@@ -75,7 +75,7 @@ over_when_idle k g h (One x) before busy = refl
 over_when_idle k g h (Two x y) before busy = refl
 over_when_idle k g h (Three x y z) before busy = refl
 
-pub due_idle : (k g h : ℕ) (ch : Channel) → first_of ch.outgoing ≡ None → waiting_in ch ≢ [] → due_in k g h ch ≡ 0
+pub due_idle : (k g h : ℕ) (ch : Channel) → oldest_of ch.outgoing ≡ None → waiting_in ch ≢ [] → due_in k g h ch ≡ 0
 due_idle k g h ch none busy =
     let nothing = empty_without_first ch.outgoing none in
     let still = subst (λ o. items ch.arrived ++ items (cond (first_has_arrived ch) (rest_of o) o) ≢ []) nothing busy in

@@ -12,7 +12,7 @@ use Rattle.alternating.specs.Dues.{lag_at_least_one, lag_at_most_thousand, due_w
 use Rattle.alternating.specs.Ticks.{changed_here, kept_elsewhere, ticked}
 use Rattle.alternating.specs.VisitsKeep.{due_over_wire}
 use Rattle.posts.specs.Laws.{ChannelKept, SamePost, OthersKept, LawfulPut, LawfulTakeAnswer, LawfulTick}
-use Rattle.posts.specs.MessageLists.{first_of, rest_of}
+use Rattle.posts.specs.MessageLists.{oldest_of, rest_of}
 use Rattle.posts.specs.Posting.{Posting, Lawful}
 use Rattle.posts.proofs.MessageLists.{empty_without_first}
 use Rattle.wires.specs.declared.frame.Frame.{Frame}
@@ -64,7 +64,7 @@ module _ {W : Type 0} {means : W → Wiring} {carries : W → ℕ → Frame → 
       }
 
   -- A take from a channel where nothing has arrived changes nothing.
-  take_of_nothing : (ch : Channel) → first_of ch.arrived ≡ None → after_take ch ≡ ch
+  take_of_nothing : (ch : Channel) → oldest_of ch.arrived ≡ None → after_take ch ≡ ch
   take_of_nothing ch none =
       let empty = empty_without_first ch.arrived none in
       let same : rest_of ch.arrived ≡ ch.arrived = ap rest_of empty ∙ sym empty in

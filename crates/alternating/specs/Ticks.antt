@@ -62,7 +62,7 @@ module _ {W : Type 0} {means : W → Wiring} {carries : W → ℕ → Frame → 
         ];
         dues_fall = λ c h busy. elim (cases_lt c n) [
           | inl less ↦ omega (arith, due_elsewhere c less, so.dues_fall c less busy)
-          | inr not-less ↦
+          | inr not_less ↦
               let same : n ≡ c = omega arith in
               subst (λ x. waiting_in (channel_at cs x) ≢ [] → due_over_wire x (means u) (channel_at es x) ≤ due_over_wire x (means w) (channel_at cs x) - 1) same due_here busy
         ];

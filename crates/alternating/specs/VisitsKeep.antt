@@ -8,7 +8,7 @@ use Rattle.alternating.specs.Soundness.{Sound}
 use Rattle.alternating.specs.Visits.{Acknowledging, acknowledgement_lost, acknowledgement_through, Visit, nothing_to_send, message_lost, message_through}
 use Rattle.alternating.specs.ChannelSteps.{frame_shows, no_frame_shows, Heard, heard, acknowledged_bit, acknowledged_list, sound_before_arrival, sound_with_first}
 use Rattle.alternating.specs.Dues.{due_idle, due_lost, due_unacknowledged, due_acknowledged}
-use Rattle.posts.specs.MessageLists.{first_of}
+use Rattle.posts.specs.MessageLists.{oldest_of}
 use Rattle.wires.specs.declared.frame.Frame.{Frame}
 use Rattle.wires.specs.Wiring.{Wiring, WireLaws, LawfulCarry, lines}
 
@@ -70,7 +70,7 @@ module _ {W : Type 0} {means : W → Wiring} {carries : W → ℕ → Frame → 
       let falls = due_unacknowledged (means w).bound ((means w).grace (2 * c)) ((means v).grace (2 * c)) ((means w).grace (2 * c + 1)) ((means v).grace (2 * c + 1)) ch d hears (grace_there_within w u v f _ _ out home) lower in
       record {
         same_list = ap waiting_in same ∙ hears.same_list;
-        sound = subst Sound (sym same) (sound_with_first d first.0 (omega (arith, ap length hears.same_list, sound.0)) (ap first_of hears.same_outgoing ∙ first.1));
+        sound = subst Sound (sym same) (sound_with_first d first.0 (omega (arith, ap length hears.same_list, sound.0)) (ap oldest_of hears.same_outgoing ∙ first.1));
         due_falls = λ busy. omega (arith, ap (due_over_wire c (means v)) same, ap (λ x. due_in x ((means v).grace (2 * c)) ((means v).grace (2 * c + 1)) d) bound, falls);
         same_bound = bound;
         other_graces = both_other_graces w u v f _ _ out home;

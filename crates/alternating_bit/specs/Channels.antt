@@ -1,7 +1,7 @@
 -- One channel of an alternating post: what it holds, what waits in it, what it sends, and what each step of the protocol makes of it.
 use Rattle.std.specs.Prelude.{Bool, true, false, cond, not, List, ◌++◌, Some, None, Option}
 use Rattle.alternating_bit.specs.declared.channel.Channel.{Channel}
-use Rattle.posts.specs.MessageLists.{items, first_of, rest_of, with_last}
+use Rattle.posts.specs.MessageLists.{items, oldest_of, rest_of, with_last}
 use Rattle.posts.specs.declared.message_list.MessageList.{MessageList}
 use Rattle.posts.specs.declared.message_list.MessageList.TheVariants.{Empty}
 use Rattle.wires.specs.declared.frame.Frame.{Frame}
@@ -35,7 +35,7 @@ framed bit (Some m) = Some (record { bit = bit; payload = Data m })
 framed bit None = None
 
 abbrev pub frame_of : Channel → Option Frame
-frame_of ch = framed ch.bit (first_of ch.outgoing)
+frame_of ch = framed ch.bit (oldest_of ch.outgoing)
 
 -- What acknowledges a frame: its bit with message 0.
 abbrev pub acknowledgement : Bool → Frame

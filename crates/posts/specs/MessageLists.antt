@@ -10,11 +10,11 @@ items (One a) = a ∷ []
 items (Two a b) = a ∷ b ∷ []
 items (Three a b c) = a ∷ b ∷ c ∷ []
 
-abbrev pub first_of : MessageList → Option Message
-first_of Empty = None
-first_of (One a) = Some a
-first_of (Two a b) = Some a
-first_of (Three a b c) = Some a
+abbrev pub oldest_of : MessageList → Option Message
+oldest_of Empty = None
+oldest_of (One a) = Some a
+oldest_of (Two a b) = Some a
+oldest_of (Three a b c) = Some a
 
 abbrev pub rest_of : MessageList → MessageList
 rest_of Empty = Empty

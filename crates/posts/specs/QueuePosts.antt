@@ -1,7 +1,7 @@
 -- The queue post that the code has: what it means, and exactly what each of its calls does.
 use Rattle.std.specs.Prelude.{◌≡◌, ℕ, ◌<◌, Ok, Err, Option, Result, slice_index_or, slice_set}
 use Rattle.posts.specs.Answers.{NoSuchChannel}
-use Rattle.posts.specs.MessageLists.{items, first_of, rest_of, with_last}
+use Rattle.posts.specs.MessageLists.{items, oldest_of, rest_of, with_last}
 use Rattle.posts.specs.Posting.{Posting}
 use Rattle.posts.specs.declared.message_list.MessageList.{MessageList}
 use Rattle.posts.specs.declared.message_list.MessageList.TheVariants.{Empty}
@@ -25,7 +25,7 @@ QueuePut s c m t = t.queues ≡ slice_set s.queues c (with_last (queue_at s c) m
 
 -- an empty channel answers none, and stays empty
 abbrev pub QueueTake : QueuePost → ℕ → Option Message → QueuePost → Type 0
-QueueTake s c came t = (came ≡ first_of (queue_at s c)) × (t.queues ≡ slice_set s.queues c (rest_of (queue_at s c)))
+QueueTake s c came t = (came ≡ oldest_of (queue_at s c)) × (t.queues ≡ slice_set s.queues c (rest_of (queue_at s c)))
 
 abbrev pub QueueTick : QueuePost → QueuePost → Type 0
 QueueTick s t = t.queues ≡ s.queues

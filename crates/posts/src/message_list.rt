@@ -1,6 +1,6 @@
 // A list of at most three messages, the oldest first.
 ghost use Rattle.std.specs.Prelude.{◌≡◌, length};
-ghost use Rattle.posts.specs.MessageLists.{items, first_of, rest_of, with_last};
+ghost use Rattle.posts.specs.MessageLists.{items, oldest_of, rest_of, with_last};
 
 use wires::Message;
 
@@ -26,7 +26,7 @@ impl MessageList {
 
     // The oldest message.
     pub fn first(self) -> Option<Message>
-        ensures { result ≡ first_of self }
+        ensures { result ≡ oldest_of self }
     {
         match self {
             MessageList::Empty => None,

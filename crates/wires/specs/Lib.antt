@@ -4,4 +4,4 @@ pub mod PatternWires
 pub mod Patterns
 pub mod Wiring
 pub mod Runs
-pub mod PatternCarryingLemmas
+pub mod PatternWireLemmas

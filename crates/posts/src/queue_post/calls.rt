@@ -29,7 +29,7 @@ impl Post for QueuePost {
 
     ghost ticks = { QueueTick };
 
-    ghost laws = { first_of (Prim.search rules, Prim.grind (arith, Self.row.coded.inj)) };
+    ghost laws = { Prim.search rules };
 
     fn channels(&self) -> usize {
         64

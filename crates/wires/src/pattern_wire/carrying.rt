@@ -4,7 +4,7 @@ ghost use Rattle.std.proofs.Common.{ap, arith};
 ghost use Rattle.wires.specs.PatternWires.{reading, next_digit, after_carry, pattern_meaning, PatternCarry, LosesAnswer, place_of, loses};
 ghost use Rattle.wires.specs.Patterns.{longest};
 ghost use Rattle.wires.specs.Runs.{run_at_most_longest};
-ghost use Rattle.wires.specs.PatternCarryingLemmas.{place_within, grace_kept, through_or_lost};
+ghost use Rattle.wires.specs.PatternWireLemmas.{place_within, grace_kept, through_or_lost};
 
 use crate::frame::Frame;
 use crate::pattern_wire::PatternWire;
