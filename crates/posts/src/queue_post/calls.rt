@@ -1,6 +1,6 @@
 // The queue post behind the interface.
 ghost use Rattle.posts.specs.QueuePosts.{QueueAnswer, queue_meaning, QueuePut, QueueTake, QueueTick};
-ghost use Rattle.std.proofs.Common.{rules, arith};
+ghost use Rattle.std.proofs.Common.{rules};
 
 use crate::message_list::MessageList;
 use crate::post::Post;
