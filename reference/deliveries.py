@@ -1,18 +1,9 @@
 #!/usr/bin/env python3
 """Prints what the program `deliveries` has to print. Run it as: python3 reference/deliveries.py > crates/deliveries/stdout"""
-from diners import Refused
 from posts import AlternatingPost, PatternWire
+from shown import show
 
-NAMES = {18: "NothingSuchToCarry", 19: "ChannelFull"}
 MESSAGES = {None: "not yet", 1: "Bottle", 2: "Token"}
-
-
-def show(call, run, granted):
-    try:
-        answer = run()
-        print(f"  {call}: {granted(answer)}")
-    except Refused as refused:
-        print(f"  {call}: refused with {refused.number} ({NAMES[refused.number]})")
 
 
 def next_tick(post):

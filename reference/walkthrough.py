@@ -1,16 +1,7 @@
 #!/usr/bin/env python3
 """Prints what the program `walkthrough` has to print. Run it as: python3 reference/walkthrough.py > crates/walkthrough/stdout"""
-from diners import ForkDiner, Graph, QueueDiner, Refused
-
-NAMES = {1: "NoSuchDrinker", 3: "WrongState", 10: "BadEnds"}
-
-
-def show(call, run, granted):
-    try:
-        answer = run()
-        print(f"  {call}: {granted(answer)}")
-    except Refused as refused:
-        print(f"  {call}: refused with {refused.number} ({NAMES[refused.number]})")
+from diners import ForkDiner, Graph, QueueDiner
+from shown import show
 
 
 def show_eating(diner):
