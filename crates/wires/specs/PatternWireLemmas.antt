@@ -1,5 +1,5 @@
 -- The laws of the pattern wire: what it loses lowers the grace of that line alone, and every grace is within the bound.
-use Rattle.std.specs.Prelude.{◌≡◌, ℕ, ◌<◌, Bool, true, false, cond, ◌≢◌, ◌⊎◌, length, Some, None, Option}
+use Rattle.std.specs.Prelude.{◌≡◌, ℕ, ◌<◌, ◌≤◌, Bool, true, false, cond, ◌≢◌, ◌⊎◌, length, Some, None, Option}
 use Rattle.std.proofs.Common.{ap, ◌∙◌, inl, inr, arith}
 use Rattle.std.proofs.lemmas.List.{get_or-set_same, get_or-set_other}
 use Rattle.wires.specs.declared.frame.Frame.{Frame}
@@ -8,6 +8,9 @@ use Rattle.wires.specs.Patterns.{run, following}
 use Rattle.wires.specs.PatternWires.{reading, place_of, loses, after_carry, pattern_meaning}
 use Rattle.wires.specs.Wiring.{lines}
 use Rattle.wires.specs.Runs.{run_falls}
+
+pub bound_within_seven : (w : PatternWire) → (pattern_meaning w).bound ≤ 7
+bound_within_seven w = omega (arith, w.few, w.known)
 
 pub place_within : (w : PatternWire) (l : ℕ) → l < lines → place_of (reading w) l < length (reading w).digits
 place_within w l h = omega (arith, w.within l h, w.filled)

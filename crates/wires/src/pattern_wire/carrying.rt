@@ -1,10 +1,10 @@
 // The pattern wire behind the interface.
 ghost use Rattle.std.specs.Prelude.{◌≡◌, ◌<◌, refl};
-ghost use Rattle.std.proofs.Common.{ap, arith};
+ghost use Rattle.std.proofs.Common.{ap};
 ghost use Rattle.wires.specs.PatternWires.{reading, next_digit, after_carry, pattern_meaning, PatternCarry, LosesAnswer, place_of, loses};
 ghost use Rattle.wires.specs.Patterns.{longest};
 ghost use Rattle.wires.specs.Runs.{run_at_most_longest};
-ghost use Rattle.wires.specs.PatternWireLemmas.{place_within, grace_kept, through_or_lost};
+ghost use Rattle.wires.specs.PatternWireLemmas.{bound_within_seven, place_within, grace_kept, through_or_lost};
 
 use crate::frame::Frame;
 use crate::pattern_wire::PatternWire;
@@ -47,7 +47,7 @@ impl Wire for PatternWire {
 
     ghost laws = { record {
       always_lawful = λ w. record {
-        bound_at_most_seven = omega (arith, w.few, w.known);
+        bound_at_most_seven = bound_within_seven w;
         grace_within_bound = λ l h. run_at_most_longest (reading w).digits (place_of (reading w) l) (place_within w l h);
       };
       carry_is_lawful = λ w l f came v h did. record {
