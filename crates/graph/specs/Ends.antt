@@ -1,5 +1,6 @@
 -- The ends of bottles, as a list: bottle b is the element at place b. Drinkers that share a bottle are neighbours.
-use Rattle.std.specs.Prelude.{ℕ, ◌<◌, Bool, false, ◌&&◌, ◌||◌, List, [], ◌∷◌, length, ◌==◌, ◌≢◌, nat_lt, slice_index_or}
+use Rattle.std.specs.Prelude.{ℕ, ◌<◌, Bool, ◌&&◌, ◌||◌, List, length, ◌==◌, ◌≢◌, nat_lt, slice_index_or}
+use Rattle.std.specs.List.{list_any}
 use Rattle.graph.specs.declared.ends.Ends.{Ends}
 
 abbrev pub between : ℕ → ℕ → Ends
@@ -19,8 +20,7 @@ touches e p = p == e.lower || p == e.higher
 
 -- p and q share a bottle
 abbrev pub neighbours : List Ends → ℕ → ℕ → Bool
-neighbours [] p q = false
-neighbours (e ∷ es) p q = joins e p q || neighbours es p q
+neighbours es p q = list_any (λ e. joins e p q) es
 
 -- there is a bottle b, and p is one of its ends
 abbrev pub is_end : List Ends → ℕ → ℕ → Bool

@@ -1,5 +1,5 @@
 -- What stands in a table of rows after a write, in an empty table, and outside the table.
-use Rattle.std.proofs.Common.{◌≡◌, ℕ, zero, suc, ◌<◌, ◌≤◌, Bool, false, cond, ◌&&◌, eqb, ltb, ◌⊎◌, List, [], length, get_or, set, replicate, refl, ap, ◌∙◌, ⊎_elim, arith, length-set}
+use Rattle.std.proofs.Common.{◌≡◌, ℕ, zero, suc, ◌<◌, ◌≤◌, Bool, false, cond, ◌&&◌, eqb, ltb, ◌⊎◌, List, [], length, get_or, set, replicate, refl, ap, ◌∙◌, ⊎_elim, arith}
 use Rattle.std.proofs.lemmas.List.{get_or-replicate, get_or-set_same, get_or-set_other, get_or_past}
 use Rattle.std.proofs.lemmas.Bool.{cases_eq, cases_lt}
 use Rattle.std.proofs.lemmas.Bool.Decides.{nat_tests}
@@ -53,17 +53,6 @@ at_all v (suc m) n zero q = row n q ∙ go v (ltb q n)
     go : (v t : Bool) → (v && t) ≡ (v && (ltb 0 (suc m) && t))
     go v t = grind (arith, nat_tests)
 at_all v (suc m) n (suc p) q = at_all v m n p q ∙ grind (arith, nat_tests)
-
-wide_written : (rows : List (List Bool)) (p : ℕ) (row : List Bool) → length row ≡ 16 → p < length rows
-    → ((a : ℕ) → a < 16 → length (get_or rows a []) ≡ 16) → (a : ℕ) → a < 16 → length (get_or (set rows p row) a []) ≡ 16
-wide_written rows p row e l wide a m = ⊎_elim
-    (λ s. ap (λ k. length (get_or (set rows p row) k [])) s ∙ ap length (get_or-set_same rows p row [] l) ∙ e)
-    (λ s. ap length (get_or-set_other rows p a row [] s) ∙ wide a m)
-    (cases_eq a p)
-
-pub square_written : (rows : List (List Bool)) (p q : ℕ) (v : Bool) → Square rows → p < 16 → Square (set rows p (set (get_or rows p []) q v))
-square_written rows p q v (high, wide) l =
-    (length-set rows p _ ∙ high, wide_written rows p (set (get_or rows p []) q v) (length-set (get_or rows p []) q v ∙ wide p l) (omega arith) wide)
 
 pub square_all : (v : Bool) → Square (replicate 16 (replicate 16 v))
 square_all v = (refl, λ p l. ap length (get_or-replicate 16 p (replicate 16 v) [] l))

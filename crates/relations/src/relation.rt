@@ -2,7 +2,6 @@
 ghost use Rattle.std.specs.Prelude.{◌≡◌, ℕ, ◌<◌, [], length, slice_index_or};
 
 pub mod access;
-mod rows;
 
 #[derive(Clone, Copy)]
 pub struct Relation {

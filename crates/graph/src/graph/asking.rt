@@ -8,18 +8,6 @@ use crate::ends::Ends;
 use crate::graph::Graph;
 use sets::Set;
 
-// Are p and q the two ends of one of these bottles?
-fn any_joins(ends: &[Ends], p: usize, q: usize) -> bool
-    ensures { result ≡ neighbours ends.now p q }
-{
-    for bottle in ends {
-        if bottle.joins(p, q) {
-            return true;
-        }
-    }
-    false
-}
-
 // The numbers of those of these bottles that have p as an end.
 fn with_end(ends: &[Ends], p: usize) -> Set
     requires { length ends.now ≤ 32 }
@@ -65,17 +53,14 @@ impl Graph {
     pub fn neighbours(&self, p: usize, q: usize) -> bool
         ensures { result ≡ neighbours (ends_of self.now) p q }
     {
-        any_joins(self.all_ends(), p, q)
+        self.all_ends().iter().any(|ends| ends.joins(p, q))
     }
 
     // Is p an end of this bottle? A bottle that does not exist has no ends.
     pub fn is_end(&self, p: usize, bottle: usize) -> bool
         ensures { result ≡ is_end (ends_of self.now) p bottle }
     {
-        match self.ends(bottle) {
-            Some(ends) => ends.touches(p),
-            None => false,
-        }
+        self.ends(bottle).is_some_and(|ends| ends.touches(p))
     }
 
     // The bottles that p shares.

@@ -1,30 +1,18 @@
-use Rattle.std.proofs.Common.{◌<◌, length, take, sym, refl, ◌∙◌, subst, arith, length-set}
+use Rattle.std.proofs.Common.{take, sym, subst, arith}
 use Rattle.std.proofs.lemmas.List.{take_more_set}
 use Rattle.std.proofs.lemmas.Bool.{both_ways}
 use Rattle.graph.specs.Ends.{between, EndsOrdered, PairsOnce}
 use Rattle.graph.proofs.Joins.{ordered_push, once_push}
 use Rattle.graph.proofs.graph.Graph.append.Goals as goal
 
-pub invariant_of-self : goal.invariant_of-self
-invariant_of-self c =
+pub invariant_of-self-clause-ordered : goal.invariant_of-self-clause-ordered
+invariant_of-self-clause-ordered c =
     let g = c.args.self.now in
-    let u = c.args.lower in
-    let v = c.args.higher in
-    let old = take g.bottles g.ends in
-    let place : g.bottles < length g.ends = omega arith in
-    let grown = sym (take_more_set g.ends g.bottles (between u v) place) in record {
-      places = length-set g.ends g.bottles (between u v) ∙ g.places;
-      some = g.some;
-      few = g.few;
-      room = omega arith;
-      ordered = subst (EndsOrdered g.drinkers) grown (ordered_push old u v g.drinkers g.ordered c.requires.ordered.0 c.requires.ordered.1);
-      once = subst PairsOnce grown (once_push old u v g.once (both_ways _ c.requires.fresh));
-    }
+    subst (EndsOrdered g.drinkers) (sym (take_more_set g.ends g.bottles (between c.args.lower c.args.higher) (omega arith)))
+    (ordered_push (take g.bottles g.ends) c.args.lower c.args.higher g.drinkers g.ordered c.requires.ordered.0 c.requires.ordered.1)
 
-pub returns : goal.returns
-returns c =
+pub invariant_of-self-clause-once : goal.invariant_of-self-clause-once
+invariant_of-self-clause-once c =
     let g = c.args.self.now in
-    record {
-      same_drinkers = refl;
-      one_more = take_more_set g.ends g.bottles (between c.args.lower c.args.higher) (omega arith);
-    }
+    subst PairsOnce (sym (take_more_set g.ends g.bottles (between c.args.lower c.args.higher) (omega arith)))
+    (once_push (take g.bottles g.ends) c.args.lower c.args.higher g.once (both_ways _ c.requires.fresh))

@@ -1,7 +1,5 @@
-use Rattle.std.proofs.Common.{◌≡◌, ℕ, ◌*◌, ◌<◌, ◌≤◌, true, length, sym, ◌∙◌, subst, arith}
+use Rattle.std.proofs.Common.{ℕ, ◌*◌, ◌≤◌, ◌≡◌, true, length, sym, subst, ◌∙◌, arith}
 use mathlib.Core.Path.{fun_ext}
-use Rattle.std.proofs.lemmas.List.{length-take-le}
-use Rattle.relations.specs.Related.{related}
 use Rattle.graph.specs.Counting.{total, number}
 use Rattle.graph.specs.Ends.{neighbours}
 use Rattle.graph.specs.Graphs.{ends_of}
@@ -9,21 +7,28 @@ use Rattle.graph.proofs.Handshakes.{handshakes}
 use Rattle.graph.proofs.Sharing.{neighbours_symmetric, neighbours_irreflexive, neighbours_below}
 use Rattle.graph.proofs.neighbourhood.Neighbourhood.new.Goals as goal
 
-pub invariant_of-result : goal.invariant_of-result
-invariant_of-result c =
+pub invariant_of-result-clause-known : goal.invariant_of-result-clause-known
+invariant_of-result-clause-known c p q h =
     let g = c.args.graph.now in
     let es = ends_of g in
-    let table = related c.neighbour_table.result in
-    let same : (p q : ℕ) → table p q ≡ neighbours es p q = c.neighbour_table.ensures in
-    let below : (p q : ℕ) → table p q ≡ true → q < c.drinkers.result = λ p q h. omega (arith, neighbours_below g.drinkers es g.ordered p q (sym (same p q) ∙ h), c.drinkers.ensures) in
-    let back : (p q : ℕ) → table p q ≡ true → table q p ≡ true = λ p q h. same q p ∙ neighbours_symmetric es p q (sym (same p q) ∙ h) in
-    let few = subst (λ (t : ℕ → ℕ → _). total (λ p. number (t p) c.drinkers.result) c.drinkers.result ≤ 2 * length es)
-    (sym (fun_ext (λ p. fun_ext (same p)))) (handshakes es c.drinkers.result) in record {
-      some = omega (arith, c.drinkers.ensures);
-      few = omega (arith, c.drinkers.ensures);
-      room = omega (arith, c.bottles.ensures, length-take-le g.bottles g.ends (omega arith));
-      known = λ p q h. (below q p (back p q h), below p q h);
-      symmetric = back;
-      irreflexive = λ p h. neighbours_irreflexive g.drinkers es g.ordered p (sym (same p p) ∙ h);
-      sparse = omega (arith, few, c.bottles.ensures);
-    }
+    let joined : neighbours es p q ≡ true = sym (c.neighbour_table.ensures p q) ∙ h in
+    let back = neighbours_below g.drinkers es g.ordered q p (neighbours_symmetric es p q joined) in
+    let there = neighbours_below g.drinkers es g.ordered p q joined in
+    (omega (arith, back, c.drinkers.ensures), omega (arith, there, c.drinkers.ensures))
+
+pub invariant_of-result-clause-symmetric : goal.invariant_of-result-clause-symmetric
+invariant_of-result-clause-symmetric c p q h =
+    let same = c.neighbour_table.ensures in
+    same q p ∙ neighbours_symmetric (ends_of c.args.graph.now) p q (sym (same p q) ∙ h)
+
+pub invariant_of-result-clause-irreflexive : goal.invariant_of-result-clause-irreflexive
+invariant_of-result-clause-irreflexive c p h =
+    let g = c.args.graph.now in
+    neighbours_irreflexive g.drinkers (ends_of g) g.ordered p (sym (c.neighbour_table.ensures p p) ∙ h)
+
+pub invariant_of-result-clause-sparse : goal.invariant_of-result-clause-sparse
+invariant_of-result-clause-sparse c =
+    let es = ends_of c.args.graph.now in
+    let n = c.drinkers.result in
+    let few = subst (λ (t : ℕ → ℕ → _). total (λ p. number (t p) n) n ≤ 2 * length es) (sym (fun_ext (λ p. fun_ext (c.neighbour_table.ensures p)))) (handshakes es n) in
+    omega (arith, few, c.bottles.ensures)
