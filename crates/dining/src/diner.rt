@@ -1,8 +1,8 @@
 // The interface of a diner. Whoever stands above it is proved once, from the meaning and its laws, for every diner.
-ghost use Rattle.std.specs.Prelude.{◌≡◌, ℕ};
-ghost use Rattle.dining.specs.Dining.{Dining};
+ghost use Rattle.std.specs.Prelude.{◌≡◌, ℕ, OnOk, IfErr};
+ghost use Rattle.dining.specs.Dining.{Dining, IsIn};
 ghost use Rattle.dining.specs.Laws.{DinerLaws};
-ghost use Rattle.dining.specs.Answers.{PhaseAnswer, ChangeAnswer};
+ghost use Rattle.dining.specs.Answers.{PhaseAnswer, Unfit, ChangeAnswer};
 ghost use Rattle.dining.specs.declared.phase.Phase.TheVariants.{Thinking, Eating};
 
 use crate::phase::Phase;
@@ -31,6 +31,18 @@ pub trait Diner {
 
     fn phase(&self, p: usize) -> Result<Phase, Refusal>
         ensures { PhaseAnswer (means self.now) p result };
+
+    // Is p a drinker in this phase? If not, the refusal says why.
+    fn require_phase(&self, p: usize, wanted: Phase) -> Result<(), Refusal>
+        ensures fit { OnOk result (IsIn (means self.now) wanted p) }
+        ensures unfit { IfErr result (Unfit (means self.now) wanted p) }
+    {
+        if self.phase(p)? == wanted {
+            Ok(())
+        } else {
+            Err(Refusal::WrongState)
+        }
+    }
 
     // Turns a thinking drinker hungry.
     fn hungry(&mut self, p: usize) -> Result<(), Refusal>

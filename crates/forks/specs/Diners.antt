@@ -1,6 +1,6 @@
 -- From a fork diner's tables to its model and back: every diner is orderly, and what a call writes is what the model has.
-use Rattle.std.specs.Prelude.{◌≡◌, ℕ, ◌+◌, ◌<◌, Bool, true, false, cond, ◌&&◌, List, length, ◌==◌, ◌≢◌, nat_lt, slice_set, refl}
-use Rattle.std.proofs.Common.{sym, ap, ◌∙◌, arith}
+use Rattle.std.specs.Prelude.{◌≡◌, ℕ, ◌<◌, Bool, true, false, cond, ◌&&◌, List, length, ◌==◌, nat_lt, slice_set}
+use Rattle.std.proofs.Common.{ap, ◌∙◌, arith}
 use Rattle.std.proofs.Math.Path.{fun_ext}
 use Rattle.std.proofs.lemmas.Bool.Decides.{nat_tests}
 use Rattle.dining.specs.declared.phase.Phase.{Phase}
@@ -8,7 +8,7 @@ use Rattle.dining.specs.declared.phase.Phase.TheVariants.{Thinking, Hungry}
 use Rattle.graph.specs.declared.neighbourhood.Neighbourhood.{Neighbourhood}
 use Rattle.graph.specs.Neighbourhoods.{near}
 use Rattle.relations.specs.declared.relation.Relation.{Relation}
-use Rattle.relations.specs.Related.{related, is_pair}
+use Rattle.relations.specs.Related.{related}
 use Rattle.forks.specs.declared.fork_diner.ForkDiner.{ForkDiner}
 use Rattle.forks.specs.Forks.{forks_of, with_phases, after_hungry, behind, after_done}
 use Rattle.forks.specs.ForkDiners.{forks}
@@ -38,32 +38,15 @@ pub hungry_written : (s : Neighbourhood) (xs : List Phase) (r : Relation) (p : �
 hungry_written s xs r p l = ap (with_phases (forks_of s xs r)) (phase_written xs p Hungry l)
 
 -- `done` writes the pairs of p one by one, and p's phase.
-module _ (s : Neighbourhood) (old sofar new : Relation) (p q : ℕ) (small : (p < 16) × (q < 16)) where
-  pub yields_more : Yields s old p q sofar
-      → ((a b : ℕ) → related new a b ≡ cond (is_pair q p a b) (near s q p) (cond (is_pair p q a b) false (related sofar a b)))
-      → Yields s old p (q + 1) new
-  yields_more Y more a b =
-      more a b ∙ go (related sofar a b) (related old a b) (near s a p) (near s q p) (Y a b)
-      (λ (h : a ≡ q). ap (λ c. near s c p) (sym h))
-      (λ (h : a ≡ p). unrelated (near s a p) (λ t. s.irreflexive p (ap (λ c. near s c p) (sym h) ∙ t)))
-    where
-      unrelated : (t : Bool) → (t ≢ true) → t ≡ false
-      unrelated true h = absurd (h refl)
-      unrelated false h = refl
-
-      go : (x o k v : Bool) → x ≡ cond (a == p && nat_lt b q) false (cond (b == p && nat_lt a q) k o) → (a ≡ q → v ≡ k) → (a ≡ p → k ≡ false)
-          → cond (is_pair q p a b) v (cond (is_pair p q a b) false x) ≡ cond (a == p && nat_lt b (q + 1)) false (cond (b == p && nat_lt a (q + 1)) k o)
-      go x o k v h m n = let u = small.0 in let w = small.1 in grind (arith, nat_tests)
-
-module _ (d : ForkDiner) (p : ℕ) (l : p < d.neighbourhood.drinkers) (new : Relation) (n : ℕ) (all : n ≡ d.neighbourhood.drinkers)
-    (Y : Yields d.neighbourhood d.precedes p n new) where
+module _ (d : ForkDiner) (p : ℕ) (l : p < d.neighbourhood.drinkers) (new : Relation)
+    (Y : Yields d.neighbourhood d.precedes p d.neighbourhood.drinkers new) where
   all_yielded : (a b : ℕ) → related new a b ≡ behind (forks d) p a b
   unfolding behind
   all_yielded a b = Y a b ∙ go (near d.neighbourhood a p) (related d.precedes a b)
       (λ h. (d.neighbourhood.known a p h).0) (λ h. d.neighbourhood.known a b (d.only a b h))
     where
       go : (x y : Bool) → (x ≡ true → a < d.neighbourhood.drinkers) → (y ≡ true → (a < d.neighbourhood.drinkers) × (b < d.neighbourhood.drinkers))
-          → cond (a == p && nat_lt b n) false (cond (b == p && nat_lt a n) x y) ≡ cond (a == p) false (cond (b == p) x y)
+          → cond (a == p && nat_lt b d.neighbourhood.drinkers) false (cond (b == p && nat_lt a d.neighbourhood.drinkers) x y) ≡ cond (a == p) false (cond (b == p) x y)
       go x y h i = grind (arith, nat_tests)
 
   pub done_written : p < length d.phases → forks_of d.neighbourhood (slice_set d.phases p Thinking) new ≡ after_done (forks d) p

@@ -2,7 +2,7 @@
 use Rattle.std.specs.Prelude.{◌≡◌, ℕ, ◌-◌, ◌<◌, ◌≤◌, Bool, true, false, cond, ◌&&◌, ◌||◌, ◌==◌, ◌≢◌, nat_lt, refl}
 use Rattle.std.proofs.Common.{inl, inr, ⊎_elim, arith}
 use Rattle.std.proofs.Math.Logic.{∥∥₁_map}
-use Rattle.std.proofs.lemmas.Bool.{cases_Bool, cases_lt, and_from, and_right}
+use Rattle.std.proofs.lemmas.Bool.{cases_Bool, cases_lt, and_from, and_right, false_from_ne_true}
 use Rattle.std.proofs.lemmas.Bool.Decides.{nat_tests}
 use Rattle.dining.specs.declared.phase.Phase.TheVariants.{Thinking, Hungry, Eating}
 use Rattle.dining.specs.Laws.{LawfulDone}
@@ -15,10 +15,6 @@ use Rattle.forks.specs.Upstream.{upstream}
 use Rattle.forks.specs.Waiting.{degree, eaters_behind, share, ahead, holder, dining}
 use Rattle.forks.specs.UpstreamLemmas.{upstream_self, upstream_step, upstream_fold, upstream_inside}
 use Rattle.forks.specs.WaitingLemmas.{Counted, holder_gives, holder_from, share_some, share_le}
-
-false_from : (t : Bool) → (t ≢ true) → t ≡ false
-false_from true h = absurd (h refl)
-false_from false h = refl
 
 thinking_eats_not : is_eating Thinking ≡ false
 thinking_eats_not = refl
@@ -147,7 +143,7 @@ module _ (f : Forks) (F : Orderly f) (h : ℕ) (l : h < f.drinkers) where
 
     frees : (q : ℕ) → q < f.drinkers → f.phase q ≡ Hungry → holder f q h ≡ true → ahead (after_done f h) q < ahead f q
     frees q i w t = ⊎_elim
-        (λ u. ahead_gone q i (differ q w) h l u (false_from _ (λ v. (upstream_done q i (differ q w) h v).1 refl)))
+        (λ u. ahead_gone q i (differ q w) h l u (false_from_ne_true _ (λ v. (upstream_done q i (differ q w) h v).1 refl)))
         (λ c. ahead_short q i (differ q w) c.0 c.1 c.2 (share_short c.0 c.3 c.4))
         (holder_gives f q h t).1
 

@@ -2,7 +2,8 @@
 use Rattle.std.specs.Prelude.{◌≡◌, ℕ, ◌<◌, Bool, true, false, cond, ◌&&◌, ◌||◌, List, [], ◌∷◌, ◌++◌, length, ◌==◌, ◌≢◌, nat_eq}
 use Rattle.std.proofs.Math.Path.{refl, sym, ap}
 use Rattle.std.proofs.Common.{◌∙◌, arith}
-use Rattle.std.proofs.Math.Bool.{or-false, or_assoc}
+use Rattle.std.proofs.Math.Bool.{or-false}
+use Rattle.std.proofs.lemmas.List.Folds.{list_any-append}
 use Rattle.std.proofs.Math.Logic.{inr, ⊎_elim}
 use Rattle.std.proofs.lemmas.Bool.{and_right, both_ways, cases_Bool, or_parts, eq-eqb, ne_eqb}
 use Rattle.std.proofs.lemmas.Bool.Decides.{nat_tests}
@@ -52,8 +53,7 @@ module _ (p : ℕ) where
   -- The queue stays orderly.
   entry_joined : (es : List Entry) (q : ℕ) → has_entry (joined es) q ≡ (has_entry es q || p == q)
   unfolding joined
-  entry_joined [] q = or-false (p == q)
-  entry_joined (e ∷ es) q = ap (λ t. (e.drinker == q) || t) (entry_joined es q) ∙ sym (or_assoc (e.drinker == q) (has_entry es q) (p == q))
+  entry_joined es q = list_any-append (λ e. e.drinker == q) es (hungry_entry p ∷ []) ∙ ap (λ t. has_entry es q || t) (or-false (p == q))
 
   eaters_joined : (near : ℕ → ℕ → Bool) (q : ℕ) (es : List Entry) → eating_neighbour near q (joined es) ≡ eating_neighbour near q es
   unfolding joined

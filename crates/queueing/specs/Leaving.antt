@@ -1,12 +1,13 @@
 -- A drinker that ate is done: its entry is taken out, and those behind it have one less ahead.
 use Rattle.std.specs.Prelude.{◌≡◌, ℕ, ◌+◌, ◌<◌, ◌≤◌, Bool, true, false, cond, ◌&&◌, List, [], ◌∷◌, ◌==◌, ◌≢◌, nat_eq, refl}
+use Rattle.std.specs.List.{list_any}
 use Rattle.std.proofs.Common.{sym, ap, ◌∙◌, inr, ⊎_elim, arith}
 use Rattle.std.proofs.lemmas.Bool.{both_ways, cases_Bool, or_cases, or_parts, or_left, or_right, or_from, eqb-true, ne_eqb}
 use Rattle.dining.specs.declared.phase.Phase.TheVariants.{Thinking, Hungry, Eating}
 use Rattle.dining.specs.Laws.{LawfulDone}
 use Rattle.queueing.specs.declared.entry.Entry.{Entry}
 use Rattle.queueing.specs.Queue.{Queue, dining, after_done, without, phase_in, ahead_in, holder_in}
-use Rattle.queueing.specs.Orderly.{has_entry, eating_neighbour, orderly}
+use Rattle.queueing.specs.Orderly.{orderly}
 use Rattle.queueing.specs.Entries.{parts, whole}
 
 module _ (p : ℕ) where
@@ -70,22 +71,13 @@ module _ (p : ℕ) where
       (cases_Bool (e.drinker == p))
 
   -- The queue stays orderly.
-  no_entry_left : (es : List Entry) (q : ℕ) → has_entry es q ≡ false → has_entry (without es p) q ≡ false
-  no_entry_left [] q h = h
-  no_entry_left (e ∷ es) q h =
-      let a = or_parts (e.drinker == q) _ h in
+  none_left : (test : Entry → Bool) (es : List Entry) → list_any test es ≡ false → list_any test (without es p) ≡ false
+  none_left test [] h = h
+  none_left test (e ∷ es) h =
+      let a = or_parts (test e) _ h in
       ⊎_elim
-      (λ (t : nat_eq e.drinker p ≡ true). rw t (no_entry_left es q a.1))
-      (λ (t : nat_eq e.drinker p ≡ false). rw t (or_from (e.drinker == q) _ a.0 (no_entry_left es q a.1)))
-      (cases_Bool (e.drinker == p))
-
-  no_eater_left : (near : ℕ → ℕ → Bool) (q : ℕ) (es : List Entry) → eating_neighbour near q es ≡ false → eating_neighbour near q (without es p) ≡ false
-  no_eater_left near q [] h = h
-  no_eater_left near q (e ∷ es) h =
-      let a = or_parts (near q e.drinker && e.eating) _ h in
-      ⊎_elim
-      (λ (t : nat_eq e.drinker p ≡ true). rw t (no_eater_left near q es a.1))
-      (λ (t : nat_eq e.drinker p ≡ false). rw t (or_from (near q e.drinker && e.eating) _ a.0 (no_eater_left near q es a.1)))
+      (λ (t : nat_eq e.drinker p ≡ true). rw t (none_left test es a.1))
+      (λ (t : nat_eq e.drinker p ≡ false). rw t (or_from (test e) _ a.0 (none_left test es a.1)))
       (cases_Bool (e.drinker == p))
 
   pub orderly_left : (near : ℕ → ℕ → Bool) (n : ℕ) (es : List Entry) → orderly near n es ≡ true → orderly near n (without es p) ≡ true
@@ -96,8 +88,8 @@ module _ (p : ℕ) where
       (λ (t : nat_eq e.drinker p ≡ true). rw t (orderly_left near n es P.rest))
       (λ (t : nat_eq e.drinker p ≡ false). rw t (whole near n e (without es p) (record {
         known = P.known;
-        once = no_entry_left es e.drinker P.once;
-        first = no_eater_left near e.drinker es P.first;
+        once = none_left (λ x. x.drinker == e.drinker) es P.once;
+        first = none_left (λ x. near e.drinker x.drinker && x.eating) es P.first;
         rest = orderly_left near n es P.rest;
       })))
       (cases_Bool (e.drinker == p))

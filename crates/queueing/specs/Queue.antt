@@ -1,6 +1,7 @@
 -- The queue diner as a model: the hungry and the eating, in the order in which they became hungry.
 -- How it starts, what each call makes of it, and what it means.
-use Rattle.std.specs.Prelude.{ℕ, ◌+◌, ◌-◌, Bool, false, cond, not, ◌&&◌, ◌||◌, List, [], ◌∷◌, ◌++◌, ◌==◌}
+use Rattle.std.specs.Prelude.{ℕ, ◌+◌, ◌-◌, Bool, false, cond, not, ◌&&◌, ◌||◌, List, [], ◌∷◌, ◌++◌, filter, ◌==◌}
+use Rattle.std.specs.List.{list_any}
 use Rattle.dining.specs.declared.phase.Phase.{Phase}
 use Rattle.dining.specs.declared.phase.Phase.TheVariants.{Thinking, Hungry, Eating}
 use Rattle.dining.specs.Dining.{Dining}
@@ -33,16 +34,14 @@ after_hungry q p = with_entries q (q.entries ++ hungry_entry p ∷ [])
 
 -- `done`: p is no longer in the queue.
 abbrev pub without : List Entry → ℕ → List Entry
-without [] p = []
-without (e ∷ es) p = cond (e.drinker == p) (without es p) (e ∷ without es p)
+without es p = filter (λ e. not (e.drinker == p)) es
 
 abbrev pub after_done : Queue → ℕ → Queue
 after_done q p = with_entries q (without q.entries p)
 
 -- one of these entries is a neighbour of p
 abbrev pub has_neighbour : (ℕ → ℕ → Bool) → List Entry → ℕ → Bool
-has_neighbour near [] p = false
-has_neighbour near (e ∷ es) p = near e.drinker p || has_neighbour near es p
+has_neighbour near es p = list_any (λ e. near e.drinker p) es
 
 -- an entry eats if it ate, or if none of those earlier in the queue is its neighbour
 abbrev pub feed : (ℕ → ℕ → Bool) → List Entry → Entry → Entry
@@ -76,7 +75,3 @@ dining q = record {
   ahead = ahead_in q.entries;
   holder = holder_in q.entries;
 }
-
--- what stands at an unused place
-abbrev pub no_entry : Entry
-no_entry = record { drinker = 0; eating = false }

@@ -1,12 +1,12 @@
 -- The queue diner that the code has, by its model: what it means, and exactly what each of its calls does.
-use Rattle.std.specs.Prelude.{◌≡◌, ℕ, take}
+use Rattle.std.specs.Prelude.{◌≡◌, ℕ}
 use Rattle.dining.specs.Dining.{Dining}
 use Rattle.graph.specs.Neighbourhoods.{near}
 use Rattle.queueing.specs.declared.queue_diner.QueueDiner.{QueueDiner}
 use Rattle.queueing.specs.Queue.{Queue, dining, after_hungry, after_done, after_turn}
 
 abbrev pub queue : QueueDiner → Queue
-queue d = record { drinkers = d.neighbourhood.drinkers; neighbours = near d.neighbourhood; entries = take d.waiting d.entries }
+queue d = record { drinkers = d.neighbourhood.drinkers; neighbours = near d.neighbourhood; entries = d.entries.items }
 
 abbrev pub meaning : QueueDiner → Dining
 meaning d = dining (queue d)

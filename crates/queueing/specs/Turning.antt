@@ -1,8 +1,9 @@
 -- A turn: entries are fed in their places, so nobody's ahead changes, and the first in the queue always eats.
 use Rattle.std.specs.Prelude.{◌≡◌, ℕ, ◌+◌, Bool, true, false, cond, not, ◌&&◌, ◌||◌, ◌⊎◌, List, [], ◌∷◌, ◌++◌, ◌==◌, ◌≢◌, nat_eq}
 use Rattle.std.proofs.Math.Path.{refl}
-use Rattle.std.proofs.Common.{sym, ap, ◌∙◌, inl, inr, ⊎_elim, arith}
-use Rattle.std.proofs.Math.Bool.{or-false, or_assoc}
+use Rattle.std.proofs.Common.{ap, ◌∙◌, inl, inr, ⊎_elim, arith}
+use Rattle.std.proofs.Math.Bool.{or-false}
+use Rattle.std.proofs.lemmas.List.Folds.{list_any-append}
 use Rattle.std.proofs.lemmas.Bool.{both_ways, cases_Bool, or_cases, or_parts, or_left, or_right, or_from, and_parts, and_from, eq-eqb}
 use Rattle.std.proofs.lemmas.Bool.Decides.{nat_tests}
 use Rattle.dining.specs.declared.phase.Phase.TheVariants.{Hungry, Eating}
@@ -66,9 +67,8 @@ module _ (near : ℕ → ℕ → Bool) where
       eats false x = let z : ◌≡◌ {A = ℕ} 0 1 = cc in omega arith
 
   -- Whose neighbours are all blocked by an earlier entry has no neighbour that is fed later.
-  pub neighbour_push : (earlier : List Entry) (e : Entry) (q : ℕ) → has_neighbour near (earlier ++ e ∷ []) q ≡ (has_neighbour near earlier q || near e.drinker q)
-  neighbour_push [] e q = or-false (near e.drinker q)
-  neighbour_push (x ∷ earlier) e q = ap (λ t. near x.drinker q || t) (neighbour_push earlier e q) ∙ sym (or_assoc (near x.drinker q) (has_neighbour near earlier q) (near e.drinker q))
+  neighbour_push : (earlier : List Entry) (e : Entry) (q : ℕ) → has_neighbour near (earlier ++ e ∷ []) q ≡ (has_neighbour near earlier q || near e.drinker q)
+  neighbour_push earlier e q = list_any-append (λ x. near x.drinker q) earlier (e ∷ []) ∙ ap (λ t. has_neighbour near earlier q || t) (or-false (near e.drinker q))
 
   Blocks : ℕ → List Entry → Type 0
   Blocks p earlier = (q : ℕ) → near p q ≡ true → has_neighbour near earlier q ≡ true

@@ -50,23 +50,15 @@ impl Diner for ForkDiner {
     }
 
     fn hungry(&mut self, p: usize) -> Result<(), Refusal> {
-        match self.phase(p)? {
-            Phase::Thinking => {
-                self.become_hungry(p);
-                Ok(())
-            }
-            _ => Err(Refusal::WrongState),
-        }
+        self.require_phase(p, Phase::Thinking)?;
+        self.become_hungry(p);
+        Ok(())
     }
 
     fn done(&mut self, p: usize) -> Result<(), Refusal> {
-        match self.phase(p)? {
-            Phase::Eating => {
-                self.leave(p);
-                Ok(())
-            }
-            _ => Err(Refusal::WrongState),
-        }
+        self.require_phase(p, Phase::Eating)?;
+        self.leave(p);
+        Ok(())
     }
 
     fn turn(&mut self) {

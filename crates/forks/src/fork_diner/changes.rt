@@ -2,15 +2,15 @@
 ghost use Rattle.std.specs.Prelude.{◌≡◌, ◌<◌};
 ghost use Rattle.dining.specs.Dining.{IsIn};
 ghost use Rattle.dining.specs.declared.phase.Phase.TheVariants.{Thinking, Eating};
-ghost use Rattle.forks.specs.ForkDiners.{meaning, HungerOf, LeaveOf, TurnOf};
+ghost use Rattle.forks.specs.ForkDiners.{meaning, HungerOf, LeaveOf};
 
 use crate::fork_diner::ForkDiner;
-use crate::fork_diner::feeding::feed_in_order;
 use crate::fork_diner::yielding::yield_to_all;
 use dining::Phase;
 
 impl ForkDiner {
     // p turns hungry.
+    #[tactic(auto, using(crate::specs::Diners::hungry_written))]
     pub(super) fn become_hungry(&mut self, p: usize)
         requires { IsIn (meaning self.old) Thinking p }
         ensures { HungerOf self.old p self.new }
@@ -19,20 +19,12 @@ impl ForkDiner {
     }
 
     // The meal of p is over: all its neighbours precede it from now on.
+    #[tactic(auto, using(crate::specs::Diners::done_written))]
     pub(super) fn leave(&mut self, p: usize)
         requires { IsIn (meaning self.old) Eating p }
         ensures { LeaveOf self.old p self.new }
     {
-        let count = self.neighbourhood.drinkers();
-        yield_to_all(&mut self.precedes, &self.neighbourhood, p, count);
+        yield_to_all(&mut self.precedes, &self.neighbourhood, p);
         self.phases[p] = Phase::Thinking;
-    }
-
-    // Every drinker is visited.
-    pub(super) fn feed(&mut self)
-        ensures { TurnOf self.old self.new }
-    {
-        let all = self.neighbourhood.drinkers();
-        feed_in_order(&self.neighbourhood, &self.precedes, &mut self.phases, all);
     }
 }

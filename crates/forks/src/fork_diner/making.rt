@@ -20,6 +20,7 @@ fn let_lower_precede(precedes: &mut Relation, ends: Ends)
 }
 
 // Of each two neighbours the lower number precedes.
+// A loop like that over a graph's table of neighbours: to share it, it would have to take what it writes as a closure and state what is known of that, which is no plainer.
 fn lower_precedes(graph: &Graph) -> Relation
     ensures { (p q : ℕ) → related result p q ≡ (neighbours (ends_of graph.now) p q && nat_lt p q) }
 {
@@ -43,6 +44,7 @@ impl ForkDiner {
     }
 
     // A theorem and no computation: who is upstream of a drinker is who has a chain of "precedes" that leads to it.
+    #[tactic(auto, using(crate::specs::UpstreamLemmas::upstream_is_by_chains, crate::specs::Diners::orderly))]
     pub fn upstream_is_by_chains(&self)
         ensures { UpstreamIsByChains (forks self.now) }
     {}

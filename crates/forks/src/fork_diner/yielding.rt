@@ -1,5 +1,5 @@
 // After a meal: how a drinker comes behind all its neighbours.
-ghost use Rattle.std.specs.Prelude.{◌≡◌, ℕ, ◌<◌, ◌≤◌, false, if◌then◌else◌};
+ghost use Rattle.std.specs.Prelude.{◌≡◌, ℕ, ◌<◌, false, if◌then◌else◌};
 ghost use Rattle.forks.specs.Yielding.{Yields};
 ghost use Rattle.graph.specs.Neighbourhoods.{near};
 ghost use Rattle.relations.specs.Related.{related, is_pair};
@@ -15,17 +15,13 @@ fn yield_to_one(precedes: &mut Relation, neighbourhood: &Neighbourhood, p: usize
     precedes.write(q, p, neighbourhood.contains(q, p));
 }
 
-// From now on p precedes none of the first n drinkers, and those that are its neighbours precede it.
-pub(super) fn yield_to_all(
-    precedes: &mut Relation,
-    neighbourhood: &Neighbourhood,
-    p: usize,
-    n: usize,
-)
-    requires { (p < 16) × (n ≤ 16) }
-    ensures { Yields neighbourhood.now precedes.old p n precedes.new }
+// From now on p precedes nobody, and its neighbours precede it.
+// Over the tables and no method of ForkDiner: half-way there need be no rank that rises along "precedes", as that type demands.
+pub(super) fn yield_to_all(precedes: &mut Relation, neighbourhood: &Neighbourhood, p: usize)
+    requires { p < neighbourhood.now.drinkers }
+    ensures { Yields neighbourhood.now precedes.old p neighbourhood.now.drinkers precedes.new }
 {
-    for q in 0..n {
+    for q in 0..neighbourhood.drinkers() {
         yield_to_one(precedes, neighbourhood, p, q);
     }
 }

@@ -10,7 +10,7 @@ ghost use Rattle.queueing.specs.Standing.{lawful};
 ghost use Rattle.queueing.specs.Turning.{turn_lawful};
 
 use crate::queue_diner::QueueDiner;
-use crate::queue_diner::places::phase_of;
+use crate::queue_diner::looking::phase_of;
 use dining::{Diner, Phase};
 use refusals::Refusal;
 
@@ -38,8 +38,7 @@ impl Diner for QueueDiner {
 
     // One less than the drinkers: all the others.
     fn cap(&self) -> usize {
-        let all = self.neighbourhood.drinkers();
-        all - 1
+        self.drinkers() - 1
     }
 
     fn neighbours(&self, p: usize, q: usize) -> bool {
@@ -50,27 +49,19 @@ impl Diner for QueueDiner {
         if p >= self.neighbourhood.drinkers() {
             return Err(Refusal::NoSuchDrinker);
         }
-        Ok(phase_of(&self.entries, self.waiting, p))
+        Ok(phase_of(self.entries.as_slice(), p))
     }
 
     fn hungry(&mut self, p: usize) -> Result<(), Refusal> {
-        match self.phase(p)? {
-            Phase::Thinking => {
-                self.become_hungry(p);
-                Ok(())
-            }
-            _ => Err(Refusal::WrongState),
-        }
+        self.require_phase(p, Phase::Thinking)?;
+        self.become_hungry(p);
+        Ok(())
     }
 
     fn done(&mut self, p: usize) -> Result<(), Refusal> {
-        match self.phase(p)? {
-            Phase::Eating => {
-                self.leave(p);
-                Ok(())
-            }
-            _ => Err(Refusal::WrongState),
-        }
+        self.require_phase(p, Phase::Eating)?;
+        self.leave(p);
+        Ok(())
     }
 
     fn turn(&mut self) {

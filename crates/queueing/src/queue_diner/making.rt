@@ -5,8 +5,8 @@ ghost use Rattle.graph.specs.Graphs.{ends_of};
 ghost use Rattle.queueing.specs.Queue.{started};
 ghost use Rattle.queueing.specs.QueueDiners.{queue};
 
-use crate::entry::Entry;
 use crate::queue_diner::QueueDiner;
+use arrayvec::ArrayVec;
 use graph::{Graph, Neighbourhood};
 
 impl QueueDiner {
@@ -16,11 +16,7 @@ impl QueueDiner {
     {
         QueueDiner {
             neighbourhood: Neighbourhood::new(graph),
-            entries: [Entry {
-                drinker: 0,
-                eating: false,
-            }; 16],
-            waiting: 0,
+            entries: ArrayVec::new(),
         }
     }
 }

@@ -11,7 +11,7 @@ invariant_of-self c =
     let d = c.args.self.now in
     let p = c.args.p in
     let room : p < length d.phases = omega arith in
-    let kept = subst Orderly (sym (done_written d p c.requires.0 c.yield_to_all.new.precedes _ c.drinkers-count.ensures c.yield_to_all.ensures room))
+    let kept = subst Orderly (sym (done_written d p c.requires.0 c.yield_to_all.new.precedes c.yield_to_all.ensures room))
     (orderly_done (forks d) (orderly d) p c.requires.0) in
     record {
       places = length-set d.phases p Thinking ∙ d.places;
@@ -20,10 +20,3 @@ invariant_of-self c =
       ranked = kept.ranked;
       apart = kept.apart;
     }
-
-pub returns : goal.returns
-returns c =
-    let d = c.args.self.now in
-    let p = c.args.p in
-    let room : p < length d.phases = omega arith in
-    done_written d p c.requires.0 c.yield_to_all.new.precedes _ c.drinkers-count.ensures c.yield_to_all.ensures room

@@ -1,7 +1,6 @@
-use Rattle.std.proofs.Common.{◌<◌, ◌&&◌, ltb, length, sym, ap, ◌∙◌, subst, arith}
-use Rattle.std.proofs.lemmas.List.{take_all}
+use Rattle.std.proofs.Common.{◌<◌, length, sym, subst, arith}
 use Rattle.relations.specs.Related.{related}
-use Rattle.graph.specs.Ends.{neighbours, EndsOrdered}
+use Rattle.graph.specs.Ends.{EndsOrdered}
 use Rattle.forks.proofs.Starting.{lower_more}
 use Rattle.forks.proofs.fork_diner.making.lower_precedes.Goals as goal
 
@@ -13,9 +12,3 @@ loop-ends-preserved c =
     let inside : i < length es = omega arith in
     let ordered = subst (EndsOrdered g.drinkers) (sym c.all_ends-ends-items.ensures) g.ordered i inside in
     lower_more es i inside ordered.0 (omega (arith, ordered.1)) (related c.loop-ends.precedes) (related c.let_lower_precede.new.precedes) c.loop-ends.invariant c.let_lower_precede.ensures
-
-pub returns : goal.returns
-returns c p q =
-    let es = c.all_ends-ends-items.result.now in
-    c.loop-ends.invariant p q
-    ∙ ap (λ xs. neighbours xs p q && ltb p q) (take_all c.loop-ends.ends-index es (omega arith) ∙ c.all_ends-ends-items.ensures)

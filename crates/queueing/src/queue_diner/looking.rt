@@ -1,0 +1,27 @@
+// Looking through entries of a queue: for a drinker, and for its neighbours.
+ghost use Rattle.std.specs.Prelude.{◌≡◌};
+ghost use Rattle.graph.specs.Neighbourhoods.{near};
+ghost use Rattle.queueing.specs.Queue.{phase_in, has_neighbour};
+
+use crate::entry::Entry;
+use dining::Phase;
+use graph::Neighbourhood;
+
+// The phase of p: its entry says it, and without one it thinks.
+pub(super) fn phase_of(entries: &[Entry], p: usize) -> Phase
+    ensures { result ≡ phase_in entries.now p }
+{
+    match entries.iter().find(|entry| entry.drinker == p) {
+        None => Phase::Thinking,
+        Some(entry) => entry.phase(),
+    }
+}
+
+// Is one of these entries a neighbour of p?
+pub(super) fn has_neighbour(neighbourhood: &Neighbourhood, entries: &[Entry], p: usize) -> bool
+    ensures { result ≡ has_neighbour (near neighbourhood.now) entries.now p }
+{
+    entries
+        .iter()
+        .any(|entry| neighbourhood.contains(entry.drinker, p))
+}
