@@ -1,6 +1,6 @@
 -- The pattern wire as a model: a pattern, and for each line the place of the digit that it reads next.
 -- How it starts, what it does with a frame, and what it means.
-use Rattle.std.specs.Prelude.{◌≡◌, ℕ, ◌<◌, ◌≤◌, Bool, cond, List, [], ◌∷◌, take, replicate, Some, None, Ok, Err, Option, Result, ◌==◌, slice_index, slice_set}
+use Rattle.std.specs.Prelude.{◌≡◌, ℕ, ◌<◌, ◌≤◌, Bool, cond, List, [], ◌∷◌, replicate, Some, None, Ok, Err, Option, Result, ◌==◌, slice_index, slice_set}
 use Rattle.refusals.specs.declared.Refusal.{Refusal}
 use Rattle.refusals.specs.Numbers.{number_of}
 use Rattle.wires.specs.declared.frame.Frame.{Frame}
@@ -14,7 +14,7 @@ pub record Reading : Type 0 where
 
 -- the code's wire, by its model
 abbrev pub reading : PatternWire → Reading
-reading w = record { digits = take w.len w.digits; places = w.places }
+reading w = record { digits = w.pattern.digits.items; places = w.places }
 
 -- the start: every line is at the first digit
 abbrev pub started : List ℕ → Reading
@@ -23,12 +23,9 @@ started ds = record { digits = ds; places = replicate lines 0 }
 abbrev pub place_of : Reading → ℕ → ℕ
 place_of r l = slice_index r.places l
 
-abbrev pub next_digit : Reading → ℕ → ℕ
-next_digit r l = slice_index r.digits (place_of r l)
-
 -- the digit that line l reads next is 1
 abbrev pub loses : Reading → ℕ → Bool
-loses r l = next_digit r l == 49
+loses r l = slice_index r.digits (place_of r l) == 49
 
 -- the place of line l moves on
 abbrev pub after_carry : Reading → ℕ → Reading

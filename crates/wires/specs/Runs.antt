@@ -1,75 +1,69 @@
--- Runs of 1 in a pattern: where they stop, how they go round the end, and how one gets shorter as a line reads on.
-use Rattle.std.specs.Prelude.{◌≡◌, ℕ, zero, suc, ◌+◌, ◌<◌, ◌≤◌, max, Bool, true, false, cond, List, [], ◌∷◌, ◌++◌, length, drop, ◌==◌, ◌≢◌, nat_lt, slice_index, refl}
-use Rattle.std.proofs.Common.{ap, sym, ◌∙◌, inl, inr, add-one, arith, eqb-true, ltb-true, ltb-false}
+-- Runs of 1 in a pattern: where they stop, the longest of them, and how one gets shorter as a line reads on.
+use Rattle.std.specs.Prelude.{◌≡◌, ℕ, zero, suc, ◌+◌, ◌<◌, ◌≤◌, ◌⊎◌, max, Bool, true, false, cond, List, [], ◌∷◌, ◌++◌, length, map, ◌==◌, nat_lt, slice_index, slice_index_or, refl}
+use Rattle.std.proofs.Common.{ap, sym, ◌∙◌, inl, inr, arith, eqb-true, ltb-false}
 use Rattle.std.proofs.lemmas.List.{at_drop_more, at_drop_all}
+use Rattle.std.proofs.lemmas.List.Folds.{prefix_len-append}
+use Rattle.std.proofs.lemmas.List.FromFn.{length-map-range_with_len, get_or-map-range_with_len}
+use Rattle.std.proofs.lemmas.List.Sums.{prefix_len_passes}
 use Rattle.std.proofs.lemmas.Bool.{cases_lt}
-use Rattle.wires.specs.Patterns.{leading, run, greatest, longest, following, Usable}
+use Rattle.std.specs.List.{fold, range_with_len}
+use Rattle.std.proofs.Math.Logic.{∥∥₁_elim}
+use Rattle.std.proofs.Props.{props}
+use Rattle.wires.specs.Patterns.{leading, run, longest, following, Usable}
 
-one_more_fits : (one : Bool) (n m : ℕ) → n ≤ m → cond one (1 + n) 0 ≤ suc m
-one_more_fits true n m h = omega arith
-one_more_fits false n m h = omega arith
-
-pub leading_at_most_all : (ds : List ℕ) → leading ds ≤ length ds
-leading_at_most_all [] = omega arith
-leading_at_most_all (d ∷ ds) = one_more_fits (d == 49) (leading ds) (length ds) (leading_at_most_all ds)
-
--- What follows digits that are not all 1 is not read.
-same_step : (one : Bool) (n m k : ℕ) → (n < k → m ≡ n) → cond one (1 + n) 0 < suc k → cond one (1 + m) 0 ≡ cond one (1 + n) 0
-same_step true n m k same h = ap (λ x. 1 + x) (same (omega arith))
-same_step false n m k same h = refl
-
-pub leading_stops : (xs ys : List ℕ) → leading xs < length xs → leading (xs ++ ys) ≡ leading xs
-leading_stops [] ys h = absurd (omega arith)
-leading_stops (x ∷ xs) ys h = same_step (x == 49) (leading xs) (leading (xs ++ ys)) (length xs) (leading_stops xs ys) h
-
--- What follows digits that are all 1 is read too.
-next_step : (one : Bool) (n m k r : ℕ) → (k ≤ n → m ≡ k + r) → suc k ≤ cond one (1 + n) 0 → cond one (1 + m) 0 ≡ suc k + r
-next_step true n m k r more h = omega (arith, more (omega arith))
-next_step false n m k r more h = absurd (omega arith)
-
-pub leading_goes_on : (xs ys : List ℕ) → length xs ≤ leading xs → leading (xs ++ ys) ≡ length xs + leading ys
-leading_goes_on [] ys h = omega arith
-leading_goes_on (x ∷ xs) ys h = next_step (x == 49) (leading xs) (leading (xs ++ ys)) (length xs) (leading ys) (leading_goes_on xs ys) h
-
-pub run_round_the_end : (ds : List ℕ) (p : ℕ) → cond (nat_lt (leading (drop p ds)) (length (drop p ds))) (leading (drop p ds)) (leading (drop p ds) + leading ds) ≡ run ds p
-run_round_the_end ds p = by_test (nat_lt (leading (drop p ds)) (length (drop p ds))) refl
-  where
-    by_test : (stops : Bool) → nat_lt (leading (drop p ds)) (length (drop p ds)) ≡ stops → cond stops (leading (drop p ds)) (leading (drop p ds) + leading ds) ≡ run ds p
-    by_test true e = sym (leading_stops (drop p ds) ds (ltb-true _ _ e))
-    by_test false e =
-        let all : length (drop p ds) ≤ leading (drop p ds) = ltb-false _ _ e in
-        omega (arith, leading_goes_on (drop p ds) ds all, leading_at_most_all (drop p ds))
-
--- Digits that are all 1 have no 0.
-no_zero_here : (d : ℕ) (ds : List ℕ) (one : Bool) (k : ℕ) → (d == 49) ≡ one → ((j : ℕ) → length ds ≤ leading ds → j < length ds → slice_index ds j ≢ 48) → suc (length ds) ≤ cond one (1 + leading ds) 0 → k < suc (length ds) → slice_index (d ∷ ds) k ≢ 48
-no_zero_here d ds false k e rest h l q = omega arith
-no_zero_here d ds true zero e rest h l q = omega (arith, eqb-true d 49 e)
-no_zero_here d ds true (suc k) e rest h l q = rest k (omega arith) (omega arith) q
-
-pub no_zero_in_ones : (ds : List ℕ) (k : ℕ) → length ds ≤ leading ds → k < length ds → slice_index ds k ≢ 48
-no_zero_in_ones [] k h l q = omega arith
-no_zero_in_ones (d ∷ ds) k h l q = no_zero_here d ds (d == 49) k refl (no_zero_in_ones ds) h l q
-
+-- The digits that are counted are 1, so that a 0 stops them.
 pub zero_stops : (ds : List ℕ) → Usable ds → leading ds < length ds
-zero_stops ds u =
+zero_stops ds usable =
     elim (cases_lt (leading ds) (length ds)) [
-      | inl h ↦ h
-      | inr h ↦ absurd (no_zero_in_ones ds u.has_a_zero.0 h u.has_a_zero.1 u.has_a_zero.2)
+      | inl stops ↦ stops
+      | inr all ↦
+          let k = usable.has_a_zero.0 in
+          let one = eqb-true (slice_index_or ds k 48) 49 (prefix_len_passes (λ d. d == 49) ds k 48 (omega (arith, usable.has_a_zero.1))) in
+          absurd (omega (arith, one, usable.has_a_zero.2))
     ]
 
--- The longest run is at least as long as each.
-pub greatest_more : (f : ℕ → ℕ) (n : ℕ) → greatest f (n + 1) ≡ max (greatest f n) (f n)
-greatest_more f n = rw add-one
+pub zero_stops_if_usable : (ds : List ℕ) → ∥ Usable ds ∥₁ → leading ds < length ds
+zero_stops_if_usable ds usable = ∥∥₁_elim usable (Prim.hlevel props) (zero_stops ds)
 
-pub at_most_greatest : (f : ℕ → ℕ) (n p : ℕ) → p < n → f p ≤ greatest f n
-at_most_greatest f zero p h = absurd (omega arith)
-at_most_greatest f (suc n) p h = elim (cases_lt p n) [
-  | inl l ↦ omega (arith, at_most_greatest f n p l)
-  | inr l ↦ let e : p ≡ n = omega arith in omega (arith, ap f e)
-]
+-- What follows digits that are not all 1 is not read.
+leading_stops : (xs ys : List ℕ) → leading xs < length xs → leading (xs ++ ys) ≡ leading xs
+leading_stops xs ys stops = grind (arith, prefix_len-append (λ d. d == 49) xs ys)
+
+-- The greatest of some numbers is at least as great as each, and it is one of them.
+no_less_than_the_first : (xs : List ℕ) (first : ℕ) → first ≤ fold max first xs
+no_less_than_the_first [] first = omega arith
+no_less_than_the_first (x ∷ xs) first = omega (arith, no_less_than_the_first xs (max first x))
+
+no_less_than_each : (xs : List ℕ) (first k : ℕ) → k < length xs → slice_index xs k ≤ fold max first xs
+no_less_than_each [] first k h = absurd (omega arith)
+no_less_than_each (x ∷ xs) first zero h = omega (arith, no_less_than_the_first xs (max first x))
+no_less_than_each (x ∷ xs) first (suc k) h = no_less_than_each xs (max first x) k (omega arith)
+
+one_of_them : (xs : List ℕ) (first : ℕ) → (fold max first xs ≡ first) ⊎ ((k : ℕ) × (k < length xs) × (slice_index xs k ≡ fold max first xs))
+one_of_them [] first = inl refl
+one_of_them (x ∷ xs) first =
+    elim (one_of_them xs (max first x)) [
+      | inl is ↦ elim (cases_lt first x) [ inl less ↦ inr (0, omega arith, omega (arith, is)) | inr more ↦ inl (omega (arith, is)) ]
+      | inr later ↦ inr (suc later.0, omega (arith, later.1), later.2)
+    ]
 
 pub run_at_most_longest : (ds : List ℕ) (p : ℕ) → p < length ds → run ds p ≤ longest ds
-run_at_most_longest ds p h = at_most_greatest (run ds) (length ds) p h
+run_at_most_longest ds p h =
+    let runs = map (run ds) (range_with_len 0 (length ds)) in
+    omega (
+      arith,
+      no_less_than_each runs 0 p (omega (arith, length-map-range_with_len (run ds) 0 (length ds))),
+      get_or-map-range_with_len (run ds) 0 (length ds) p p 0 h (omega arith),
+    )
+
+pub longest_is_a_run : (ds : List ℕ) → (longest ds ≡ 0) ⊎ ((p : ℕ) × (p < length ds) × (run ds p ≡ longest ds))
+longest_is_a_run ds =
+    elim (one_of_them (map (run ds) (range_with_len 0 (length ds))) 0) [
+      | inl none ↦ inl none
+      | inr some ↦
+          let within : some.0 < length ds = omega (arith, some.1, length-map-range_with_len (run ds) 0 (length ds)) in
+          inr (some.0, within, omega (arith, some.2, get_or-map-range_with_len (run ds) 0 (length ds) some.0 some.0 0 within (omega arith)))
+    ]
 
 -- A line that reads a 1 has a run of one less before it.
 round_the_end : (ds : List ℕ) (p : ℕ) (further : Bool) → nat_lt (p + 1) (length ds) ≡ further → leading ds < length ds → run ds (cond further (p + 1) 0) ≡ run ds (p + 1)

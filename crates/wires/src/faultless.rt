@@ -1,9 +1,9 @@
 // The wire that loses nothing.
-ghost use Rattle.wires.specs.Faultless.{faultless_meaning, FaultlessCarry};
 ghost use Rattle.std.proofs.Common.{rules};
+ghost use Rattle.wires.specs.Faultless.{faultless_meaning, FaultlessCarry};
 
 use crate::frame::Frame;
-use crate::wire::Wire;
+use crate::wire::{LINES, Wire};
 use refusals::Refusal;
 
 #[derive(Clone, Copy)]
@@ -16,12 +16,14 @@ impl Wire for FaultlessWire {
 
     ghost laws = { Prim.search rules };
 
+    // No frame is lost.
     fn bound(&self) -> usize {
         0
     }
 
+    // The frame comes out, whichever the line.
     fn carry(&mut self, line: usize, frame: Frame) -> Result<Option<Frame>, Refusal> {
-        if line > 127 {
+        if line >= LINES {
             return Err(Refusal::NothingSuchToCarry);
         }
         Ok(Some(frame))

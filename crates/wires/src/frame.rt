@@ -4,7 +4,9 @@ ghost use Rattle.wires.specs.Frames.{payload_number, FrameRead};
 
 use crate::message::Message;
 use refusals::Refusal;
+use std::fmt;
 
+// In place of an `Option` of a message, which would be no plainer: that the case without one acknowledges is said by its name.
 #[derive(Clone, Copy, PartialEq, Eq, Debug)]
 pub enum Payload {
     Acknowledgement,
@@ -17,33 +19,45 @@ pub struct Frame {
     pub payload: Payload,
 }
 
-impl Payload {
-    pub fn number(self) -> usize
-        ensures { result ≡ payload_number self }
-    {
-        match self {
+impl From<Payload> for usize {
+    ghost from_gives = { λ payload number. number ≡ payload_number payload };
+
+    // The number of a payload: that of its message, or 0.
+    fn from(payload: Payload) -> usize {
+        match payload {
             Payload::Acknowledgement => 0,
-            Payload::Data(message) => message.number(),
+            Payload::Data(message) => message.into(),
         }
     }
 }
 
-impl Frame {
-    // The frame that has these numbers.
-    pub fn from_numbers(bit: usize, message: usize) -> Result<Frame, Refusal>
-        ensures { FrameRead bit message result }
-    {
+impl TryFrom<(usize, usize)> for Frame {
+    type Error = Refusal;
+
+    ghost try_from_gives = { λ numbers frame. FrameRead numbers.0 numbers.1 frame };
+
+    // The frame that has these numbers: that of its bit, and that of its payload.
+    fn try_from((bit, payload): (usize, usize)) -> Result<Frame, Refusal> {
         if bit > 1 {
             return Err(Refusal::NothingSuchToCarry);
         }
-        let payload = if message == 0 {
-            Payload::Acknowledgement
-        } else {
-            Payload::Data(Message::from_number(message)?)
+        let payload = match payload {
+            0 => Payload::Acknowledgement,
+            number => Payload::Data(Message::try_from(number)?),
         };
         Ok(Frame {
             bit: bit == 1,
             payload,
         })
+    }
+}
+
+impl fmt::Display for Frame {
+    fn fmt<W: fmt::Write>(&self, f: &mut fmt::Formatter<W>) -> fmt::Result {
+        let bit = self.bit as u8;
+        match self.payload {
+            Payload::Data(message) => write!(f, "{message:?} with bit {bit}"),
+            Payload::Acknowledgement => write!(f, "acknowledgement of bit {bit}"),
+        }
     }
 }

@@ -4,26 +4,30 @@ ghost use Rattle.wires.specs.Frames.{message_number, MessageRead};
 
 use refusals::Refusal;
 
-#[derive(Clone, Copy, PartialEq, Eq, Debug)]
+#[derive(Clone, Copy, PartialEq, Eq, Debug, Default)]
 pub enum Message {
-    Bottle,
-    Token,
+    // The default fills the places of an `ArrayVec` that are not in use.
+    #[default]
+    Bottle = 1,
+    Token = 2,
 }
 
-impl Message {
-    pub fn number(self) -> usize
-        ensures { result ≡ message_number self }
-    {
-        match self {
-            Message::Bottle => 1,
-            Message::Token => 2,
-        }
+impl From<Message> for usize {
+    ghost from_gives = { λ message number. number ≡ message_number message };
+
+    // The number of a message.
+    fn from(message: Message) -> usize {
+        message as usize
     }
+}
+
+impl TryFrom<usize> for Message {
+    type Error = Refusal;
+
+    ghost try_from_gives = { MessageRead };
 
     // The message that has this number.
-    pub fn from_number(number: usize) -> Result<Message, Refusal>
-        ensures { MessageRead number result }
-    {
+    fn try_from(number: usize) -> Result<Message, Refusal> {
         match number {
             1 => Ok(Message::Bottle),
             2 => Ok(Message::Token),

@@ -6,6 +6,9 @@ ghost use Rattle.wires.specs.declared.frame.Frame.{Frame};
 use crate::frame::Frame;
 use refusals::Refusal;
 
+// How many lines every wire has.
+pub(crate) const LINES: usize = 128;
+
 pub trait Wire {
     // What this wire means: how many frames in a row may be lost on a line, and how many still may on each.
     ghost means: { Self → Wiring };
@@ -13,6 +16,7 @@ pub trait Wire {
     // Exactly what this wire does with a frame on a line: the wire before, the line, the frame, what comes out (none where it is lost), and the wire after.
     ghost carries: { Self → ℕ → Frame → Option Frame → Self → Type 0 };
 
+    // How many frames in a row this wire loses at the most.
     fn bound(&self) -> usize
         ensures { result ≡ (means self.now).bound };
 

@@ -1,7 +1,9 @@
-use Rattle.wires.proofs.Rounds.{longest_run_if_checked}
+use Rattle.std.proofs.Common.{ap, ◌∙◌}
+use Rattle.wires.specs.Patterns.{longest}
+use Rattle.wires.proofs.Rounds.{longest_run}
 use Rattle.wires.proofs.pattern.check_pattern.Goals as goal
 
-pub returns : goal.returns
-returns c =
-    let answer = c.longest_run_if_usable in
-    record { checked = answer.ensures; read_round = longest_run_if_checked c.args.pattern.now answer.result answer.ensures }
+pub returns-clause-read_round : goal.returns-clause-read_round
+returns-clause-read_round c =
+    let usable = c.in_ok-try_from.ensures in
+    longest_run c.args.pattern.now _ usable.0 (c.longest_run.ensures ∙ ap longest usable.1)
