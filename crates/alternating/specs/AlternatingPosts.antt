@@ -1,12 +1,10 @@
 -- The alternating post that the code has: what it means, over what its wire means, and exactly what its calls do.
-use Rattle.std.specs.Prelude.{◌≡◌, ℕ, ◌+◌, ◌*◌, ◌<◌, cond, List, Ok, Err, Option, Result, slice_index_or, slice_set}
+use Rattle.std.specs.Prelude.{◌≡◌, ℕ, ◌+◌, ◌*◌, ◌<◌, cond, List, [], ◌∷◌, Ok, Err, Option, Result, slice_index_or, slice_set}
 use Rattle.alternating_bit.specs.declared.channel.Channel.{Channel}
 use Rattle.alternating_bit.specs.Channels.{unused, first_has_arrived, waiting_in, frame_of, after_put, after_take}
 use Rattle.posts.specs.Answers.{NoSuchChannel}
-use Rattle.posts.specs.MessageLists.{oldest_of}
+use Rattle.posts.specs.MessageLists.{items, oldest_of}
 use Rattle.posts.specs.Posting.{Posting}
-use Rattle.posts.specs.declared.message_list.MessageList.{MessageList}
-use Rattle.posts.specs.declared.message_list.MessageList.TheVariants.{Empty, One, Two, Three}
 use Rattle.refusals.specs.declared.Refusal.{Refusal}
 use Rattle.wires.specs.declared.frame.Frame.{Frame}
 use Rattle.wires.specs.declared.message.Message.{Message}
@@ -16,17 +14,15 @@ abbrev pub channel_at : List Channel → ℕ → Channel
 channel_at cs c = slice_index_or cs c unused
 
 -- 0 where something has arrived, else n
-abbrev pub unless_arrived : MessageList → ℕ → ℕ
-unless_arrived Empty n = n
-unless_arrived (One a) n = 0
-unless_arrived (Two a b) n = 0
-unless_arrived (Three a b c) n = 0
+abbrev pub unless_arrived : List Message → ℕ → ℕ
+unless_arrived [] n = n
+unless_arrived (m ∷ ms) n = 0
 
 -- How many ticks the oldest message still needs at the most, where k is the bound of the wire, and `there` and `back` are the graces of the channel's two lines.
 -- A message that is sent arrives within there + 1 ticks. One behind a message that has arrived waits for the acknowledgement first:
 -- the old message comes through again within there + 1 ticks, and within k + 1 more after each of `back` lost acknowledgements; then the next one arrives within k + 1.
 abbrev pub due_in : ℕ → ℕ → ℕ → Channel → ℕ
-due_in k there back ch = unless_arrived ch.arrived (cond (first_has_arrived ch) (back * (k + 1) + (there + 1) + (k + 1)) (there + 1))
+due_in k there back ch = unless_arrived (items ch.arrived) (cond (first_has_arrived ch) (back * (k + 1) + (there + 1) + (k + 1)) (there + 1))
 
 abbrev pub alternating_meaning : Wiring → List Channel → Posting
 alternating_meaning w cs = record {

@@ -1,6 +1,7 @@
 -- What the steps of the protocol do to what waits in a channel: only a put and a take change it.
-use Rattle.std.specs.Prelude.{◌≡◌, ℕ, ◌+◌, ◌<◌, ◌≤◌, Bool, true, false, cond, not, ltb, ◌⊎◌, [], ◌∷◌, ◌++◌, length, Some, None, Option, nat_lt, refl}
-use Rattle.std.proofs.Common.{sym, ap, subst, ◌∙◌, append_assoc, inl, inr, arith, ltb-true, length-append}
+use Rattle.std.specs.Prelude.{◌≡◌, ℕ, ◌+◌, ◌<◌, ◌≤◌, Bool, true, false, cond, not, ◌⊎◌, [], ◌∷◌, ◌++◌, length, Some, None, Option, refl}
+use Rattle.std.specs.Option.{option_map}
+use Rattle.std.proofs.Common.{sym, ap, subst, ◌∙◌, append_assoc, inl, inr, arith, length-append}
 use Rattle.alternating_bit.specs.declared.channel.Channel.{Channel}
 use Rattle.alternating.specs.AlternatingPosts.{unless_arrived}
 use Rattle.alternating_bit.specs.Channels.{differ, first_has_arrived, to_arrive, waiting_in, framed, frame_of, after_put, after_take, after_arrival, after_frame, after_acknowledgement}
@@ -10,7 +11,6 @@ use Rattle.posts.specs.declared.message_list.MessageList.{MessageList}
 use Rattle.posts.specs.declared.message_list.MessageList.TheVariants.{Empty, One, Two, Three}
 use Rattle.posts.proofs.MessageLists.{last_is_behind, last_is_behind_the_rest, first_and_rest, rest_is_one_less}
 use Rattle.wires.specs.declared.frame.Frame.{Frame}
-use Rattle.wires.specs.declared.frame.Payload.TheVariants.{Data}
 use Rattle.wires.specs.declared.message.Message.{Message}
 
 -- Flipping either bit turns "they differ" round.
@@ -31,16 +31,16 @@ abbrev remaining : Bool → MessageList → MessageList
 remaining arrived o = cond arrived (rest_of o) o
 
 -- The frame of a channel has its bit and its first outgoing message.
-framed_shows : (bit : Bool) (o : Option Message) (f : Frame) → framed bit o ≡ Some f → (m : Message) × (o ≡ Some m) × (f ≡ record { bit = bit; payload = Data m })
+framed_shows : (bit : Bool) (o : Option Message) (f : Frame) → option_map (framed bit) o ≡ Some f → (m : Message) × (o ≡ Some m) × (f ≡ framed bit m)
 framed_shows bit (Some m) f e = (m, refl, cc)
-framed_shows bit None f e = let z : ◌≡◌ {A = ℕ} 0 1 = cc in absurd (omega arith)
+framed_shows bit None f e = cc
 
-pub frame_shows : (ch : Channel) (f : Frame) → frame_of ch ≡ Some f → (m : Message) × (oldest_of ch.outgoing ≡ Some m) × (f ≡ record { bit = ch.bit; payload = Data m })
+pub frame_shows : (ch : Channel) (f : Frame) → frame_of ch ≡ Some f → (m : Message) × (oldest_of ch.outgoing ≡ Some m) × (f ≡ framed ch.bit m)
 frame_shows ch f e = framed_shows ch.bit (oldest_of ch.outgoing) f e
 
-framed_none : (bit : Bool) (o : Option Message) → framed bit o ≡ None → o ≡ None
+framed_none : (bit : Bool) (o : Option Message) → option_map (framed bit) o ≡ None → o ≡ None
 framed_none bit None e = refl
-framed_none bit (Some m) e = let z : ◌≡◌ {A = ℕ} 0 1 = cc in absurd (omega arith)
+framed_none bit (Some m) e = cc
 
 pub no_frame_shows : (ch : Channel) → frame_of ch ≡ None → oldest_of ch.outgoing ≡ None
 no_frame_shows ch e = framed_none ch.bit (oldest_of ch.outgoing) e
@@ -51,9 +51,9 @@ pub record Heard (ch d : Channel) : Type 0 where
   pub has_arrived : first_has_arrived d ≡ true
   pub same_outgoing : d.outgoing ≡ ch.outgoing
   pub same_list : waiting_in d ≡ waiting_in ch
-  pub again_or_new : ((first_has_arrived ch ≡ true) × (d ≡ ch)) ⊎ ((n : ℕ) → unless_arrived d.arrived n ≡ 0)
+  pub again_or_new : ((first_has_arrived ch ≡ true) × (d ≡ ch)) ⊎ ((n : ℕ) → unless_arrived (items d.arrived) n ≡ 0)
 
-new_is_there : (a : MessageList) (m : Message) (n : ℕ) → unless_arrived (with_last a m) n ≡ 0
+new_is_there : (a : MessageList) (m : Message) (n : ℕ) → unless_arrived (items (with_last a m)) n ≡ 0
 new_is_there Empty m n = refl
 new_is_there (One x) m n = refl
 new_is_there (Two x y) m n = refl
@@ -119,31 +119,6 @@ put_sound m ch sound room = (
 -- A take takes the oldest message away.
 pub take_list : (m : Message) (ch : Channel) → oldest_of ch.arrived ≡ Some m → waiting_in ch ≡ m ∷ waiting_in (after_take ch)
 take_list m ch first = ap (λ xs. xs ++ items (to_arrive ch)) (first_and_rest ch.arrived m first)
-
-rest_is_not_more : (l : MessageList) → length (items (rest_of l)) ≤ length (items l)
-rest_is_not_more Empty = omega arith
-rest_is_not_more (One a) = omega arith
-rest_is_not_more (Two a b) = omega arith
-rest_is_not_more (Three a b c) = omega arith
-
-pub take_sound : (ch : Channel) → Sound ch → Sound (after_take ch)
-take_sound ch sound = (
-  omega (
-    arith,
-    sound.0,
-    rest_is_not_more ch.arrived,
-    length-append (items ch.arrived) (items (to_arrive ch)),
-    length-append (items (rest_of ch.arrived)) (items (to_arrive ch)),
-  ),
-  sound.1,
-)
-
--- What a step makes of a channel that was looked up is sound, if it is so of that channel.
-pub sound_after : (step : Channel → Channel) (ch found d : Channel) → found ≡ ch → d ≡ step found → Sound (step ch) → Sound d
-sound_after step ch found d its made sound = subst Sound (sym (made ∙ ap step its)) sound
-
-pub room_in : (ch found : Channel) (free : Bool) → found ≡ ch → free ≡ nat_lt (length (waiting_in found)) 2 → free ≡ true → length (waiting_in ch) < 2
-room_in ch found free its is room = ltb-true (length (waiting_in ch)) 2 (ap (λ x. ltb (length (waiting_in x)) 2) (sym its) ∙ sym is ∙ room)
 
 -- Few wait, and either the first outgoing message has not arrived or it is there: that is sound.
 pub sound_before_arrival : (ch : Channel) → length (waiting_in ch) ≤ 2 → first_has_arrived ch ≡ false → Sound ch

@@ -2,13 +2,15 @@
 use Rattle.std.specs.Prelude.{◌≡◌, ℕ, ◌+◌, ◌*◌, ◌<◌, ◌∷◌, length, Some, None, Option, slice_set, refl}
 use Rattle.std.proofs.Common.{sym, ap, subst, ◌∙◌, inl, inr, arith}
 use Rattle.std.proofs.lemmas.Bool.{cases_eq}
+use Rattle.std.proofs.lemmas.List.Elements.{All-get_or}
 use Rattle.alternating.specs.declared.alternating_post.AlternatingPost.{AlternatingPost}
 use Rattle.alternating_bit.specs.declared.channel.Channel.{Channel}
 use Rattle.alternating.specs.AlternatingPosts.{channel_at, alternating_meaning, AlternatingPut, AlternatingTake}
-use Rattle.alternating_bit.specs.Channels.{waiting_in, after_put, after_take}
+use Rattle.alternating_bit.specs.Channels.{unused, waiting_in, after_put, after_take}
 use Rattle.alternating.specs.Visits.{VisitedBelow}
 use Rattle.alternating.specs.ChannelSteps.{put_list, take_list}
 use Rattle.alternating.specs.Dues.{lag_at_least_one, lag_at_most_thousand, due_within_lag, due_over, due_not_over}
+use Rattle.alternating.specs.Soundness.{Sound}
 use Rattle.alternating.specs.Ticks.{changed_here, kept_elsewhere, ticked}
 use Rattle.alternating.specs.VisitsKeep.{due_over_wire}
 use Rattle.posts.specs.Laws.{ChannelKept, SamePost, OthersKept, LawfulPut, LawfulTakeAnswer, LawfulTick}
@@ -23,6 +25,9 @@ module _ {W : Type 0} {means : W → Wiring} {carries : W → ℕ → Frame → 
   abbrev meaning : AlternatingPost W → Posting
   meaning s = alternating_meaning (means s.wire) s.channels
 
+  sound_at : (s : AlternatingPost W) (c : ℕ) → c < 64 → Sound (channel_at s.channels c)
+  sound_at s c h = All-get_or Sound s.channels c unused (omega (arith, s.all)) s.sound
+
   pub lawful : (s : AlternatingPost W) → Lawful (meaning s)
   lawful s =
       let w = means s.wire in
@@ -30,7 +35,7 @@ module _ {W : Type 0} {means : W → Wiring} {carries : W → ℕ → Frame → 
       record {
         lag_at_least_one = lag_at_least_one w.bound;
         lag_at_most_thousand = lag_at_most_thousand w.bound law.bound_at_most_seven;
-        at_most_two_wait = λ c h. (s.sound c h).0;
+        at_most_two_wait = λ c h. (sound_at s c h).0;
         due_within_lag = λ c busy. due_within_lag w.bound (w.grace (2 * c)) (w.grace (2 * c + 1)) (channel_at s.channels c)
             (law.grace_within_bound (2 * c) (omega (arith, busy.0))) (law.grace_within_bound (2 * c + 1) (omega (arith, busy.0)));
       }
@@ -58,7 +63,7 @@ module _ {W : Type 0} {means : W → Wiring} {carries : W → ℕ → Frame → 
       let here = stored_here s t c (after_put m ch) h stored in
       record {
         same_post = same_post s t wire;
-        joins_the_end = ap waiting_in here ∙ put_list m ch (s.sound c h) room;
+        joins_the_end = ap waiting_in here ∙ put_list m ch (sound_at s c h) room;
         due_stays = λ busy. ap (λ x. due_over_wire c (means x) (channel_at t.channels c)) wire ∙ ap (due_over_wire c (means s.wire)) here;
         others = others_kept s t c (after_put m ch) wire stored;
       }

@@ -2,7 +2,9 @@
 use Rattle.std.specs.Prelude.{◌≡◌, ℕ, ◌+◌, ◌-◌, ◌*◌, ◌<◌, ◌≤◌, ◌≢◌, List, [], length, Option, slice_set, refl}
 use Rattle.std.proofs.Common.{sym, ap, subst, ◌∙◌, inl, inr, arith, length-set}
 use Rattle.std.proofs.lemmas.List.{get_or-set_same, get_or-set_other}
+use Rattle.std.proofs.lemmas.List.Elements.{All-get_or}
 use Rattle.std.proofs.lemmas.Bool.{cases_eq, cases_lt}
+use Rattle.std.specs.List.{All}
 use Rattle.alternating_bit.specs.declared.channel.Channel.{Channel}
 use Rattle.alternating.specs.AlternatingPosts.{channel_at}
 use Rattle.alternating_bit.specs.Channels.{unused, waiting_in}
@@ -19,18 +21,7 @@ changed_here cs c d all few = get_or-set_same cs c d unused (omega (arith, all))
 pub kept_elsewhere : (cs : List Channel) (c k : ℕ) (d : Channel) → k ≢ c → channel_at (slice_set cs c d) k ≡ channel_at cs k
 kept_elsewhere cs c k d other = get_or-set_other cs c k d unused other
 
--- All channels stay sound, and there are as many, where a sound one is stored: what the post owes after each change.
-pub store_keeps : (cs : List Channel) (c : ℕ) (d : Channel) → length cs ≡ 64 → ((k : ℕ) → k < 64 → Sound (channel_at cs k)) → c < 64 → Sound d
-    → (length (slice_set cs c d) ≡ 64) × ((k : ℕ) → k < 64 → Sound (channel_at (slice_set cs c d) k))
-store_keeps cs c d all sound few its = (length-set cs c d ∙ all, stay_sound)
-  where
-    stay_sound : (k : ℕ) → k < 64 → Sound (channel_at (slice_set cs c d) k)
-    stay_sound k h = elim (cases_eq k c) [
-      | inl same ↦ subst (λ x. Sound (channel_at (slice_set cs c d) x)) (sym same) (subst Sound (sym (changed_here cs c d all few)) its)
-      | inr other ↦ subst Sound (sym (kept_elsewhere cs c k d other)) (sound k h)
-    ]
-
-module _ {W : Type 0} {means : W → Wiring} {carries : W → ℕ → Frame → Option Frame → W → Type 0} (laws : WireLaws means carries) (w : W) (cs : List Channel) (all : length cs ≡ 64) (sound : (c : ℕ) → c < 64 → Sound (channel_at cs c)) where
+module _ {W : Type 0} {means : W → Wiring} {carries : W → ℕ → Frame → Option Frame → W → Type 0} (laws : WireLaws means carries) (w : W) (cs : List Channel) (all : length cs ≡ 64) (sound : All Sound cs) where
   -- The channels below n have been visited: no list has changed, and their dues have fallen. The others are as they were.
   pub record TickedBelow (n : ℕ) (v : W) (ds : List Channel) : Type 0 where
     pub all_there : length ds ≡ 64
@@ -43,7 +34,7 @@ module _ {W : Type 0} {means : W → Wiring} {carries : W → ℕ → Frame → 
   next_visit : (n : ℕ) (v : W) (ds : List Channel) (u : W) (es : List Channel) → n < 64 → TickedBelow n v ds → Visited carries v ds n u es → TickedBelow (n + 1) u es
   next_visit n v ds u es few so (d, visit, stored) =
       let before : channel_at ds n ≡ channel_at cs n = so.later_channels n (omega arith) few in
-      let kept = visit_keeps laws n few v (channel_at ds n) u d (subst Sound (sym before) (sound n few)) visit in
+      let kept = visit_keeps laws n few v (channel_at ds n) u d (subst Sound (sym before) (All-get_or Sound cs n unused (omega (arith, all)) sound)) visit in
       let here : channel_at es n ≡ d = ap (λ xs. channel_at xs n) stored ∙ changed_here ds n d so.all_there few in
       let elsewhere : (c : ℕ) → c ≢ n → channel_at es c ≡ channel_at ds c = λ c other. ap (λ xs. channel_at xs c) stored ∙ kept_elsewhere ds n c d other in
       let due_before = due_same n (means w) (means v) (channel_at cs n) (channel_at ds n) so.same_bound

@@ -1,9 +1,13 @@
 -- What a tick of an alternating post does, exactly: it visits its channels in number order.
 -- At a visit the first outgoing message is sent, and whatever comes through is acknowledged. `carries` is what the wire does with a frame on a line.
-use Rattle.std.specs.Prelude.{◌≡◌, ℕ, ◌+◌, ◌*◌, Bool, List, Some, None, Option, slice_index_or, slice_set}
+use Rattle.std.specs.Prelude.{◌≡◌, ℕ, ◌+◌, ◌*◌, Bool, List, Some, None, MatchBool, Option, slice_index_or, slice_set}
 use Rattle.alternating_bit.specs.declared.channel.Channel.{Channel}
 use Rattle.alternating_bit.specs.Channels.{unused, frame_of, acknowledgement, after_frame, after_acknowledgement}
 use Rattle.wires.specs.declared.frame.Frame.{Frame}
+
+-- The frame f is carried on line l, from the wire w to the wire v: it comes through or is lost.
+abbrev pub Carried : {W : Type 0} → (W → ℕ → Frame → Option Frame → W → Type 0) → ℕ → W → Frame → Bool → W → Type 0
+Carried carries l w f through v = MatchBool through (carries w l f (Some f) v) (carries w l f None v)
 
 module _ {W : Type 0} (carries : W → ℕ → Frame → Option Frame → W → Type 0) (c : ℕ) where
   -- The acknowledgement goes back on line 2 * c + 1: from the wire w and the channel ch to the wire v and the channel d.

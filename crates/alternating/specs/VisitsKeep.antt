@@ -32,7 +32,7 @@ pub record Kept (c : ℕ) (w : Wiring) (ch : Channel) (v : Wiring) (d : Channel)
   pub other_graces : (k : ℕ) → k < lines → k ≢ 2 * c → k ≢ 2 * c + 1 → v.grace k ≡ w.grace k
 
 loss_lowers : (w : Wiring) (l : ℕ) (f : Frame) (v : Wiring) → LawfulCarry w l f None v → v.grace l < w.grace l
-loss_lowers w l f v law = ⊎_elim (λ e. let z : ◌≡◌ {A = ℕ} 0 1 = cc in absurd (omega arith)) (λ lost. lost.1) law.same_frame_or_grace_falls
+loss_lowers w l f v law = ⊎_elim (λ e. cc) (λ lost. lost.1) law.same_frame_or_grace_falls
 
 module _ {W : Type 0} {means : W → Wiring} {carries : W → ℕ → Frame → Option Frame → W → Type 0} (laws : WireLaws means carries) (c : ℕ) (few : c < 64) where
   there : 2 * c < lines

@@ -1,7 +1,8 @@
 // The state of an alternating post, with what holds of it as long as it exists.
-ghost use Rattle.std.specs.Prelude.{◌≡◌, ℕ, ◌<◌, length, slice_index_or};
-ghost use Rattle.alternating_bit.specs.Channels.{unused};
+ghost use Rattle.std.specs.Prelude.{◌≡◌, length};
+ghost use Rattle.std.specs.List.{All};
 ghost use Rattle.alternating.specs.Soundness.{Sound};
+ghost use Rattle.alternating.specs.declared.alternating_post.TheConstants.{CHANNELS};
 
 use alternating_bit::Channel;
 
@@ -10,10 +11,13 @@ pub mod calls;
 pub mod making;
 mod visiting;
 
+// How many channels there are.
+const CHANNELS: usize = 64;
+
 #[derive(Drop)]
 pub struct AlternatingPost<W> {
     wire: W,
-    channels: [Channel; 64],
-    ghost all: { length channels ≡ 64 },
-    ghost sound: { (c : ℕ) → c < 64 → Sound (slice_index_or channels c unused) },
+    channels: [Channel; CHANNELS],
+    ghost all: { length channels ≡ CHANNELS },
+    ghost sound: { All Sound channels },
 }

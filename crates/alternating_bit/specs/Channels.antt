@@ -1,5 +1,6 @@
 -- One channel of an alternating post: what it holds, what waits in it, what it sends, and what each step of the protocol makes of it.
-use Rattle.std.specs.Prelude.{Bool, true, false, cond, not, List, ◌++◌, Some, None, Option}
+use Rattle.std.specs.Prelude.{Bool, true, false, cond, not, List, ◌++◌, Option}
+use Rattle.std.specs.Option.{option_map}
 use Rattle.alternating_bit.specs.declared.channel.Channel.{Channel}
 use Rattle.posts.specs.MessageLists.{items, oldest_of, rest_of, with_last}
 use Rattle.posts.specs.declared.message_list.MessageList.{MessageList}
@@ -13,6 +14,7 @@ use Rattle.wires.specs.declared.message.Message.{Message}
 abbrev pub unused : Channel
 unused = record { outgoing = Empty; bit = false; expected = false; arrived = Empty }
 
+-- of two bits; not std's `xor`, which does not open in the proofs of the code
 abbrev pub differ : Bool → Bool → Bool
 differ true b = not b
 differ false b = b
@@ -30,12 +32,11 @@ abbrev pub waiting_in : Channel → List Message
 waiting_in ch = items ch.arrived ++ items (to_arrive ch)
 
 -- What it sends: the bit with the first outgoing message.
-abbrev pub framed : Bool → Option Message → Option Frame
-framed bit (Some m) = Some (record { bit = bit; payload = Data m })
-framed bit None = None
+abbrev pub framed : Bool → Message → Frame
+framed bit m = record { bit = bit; payload = Data m }
 
 abbrev pub frame_of : Channel → Option Frame
-frame_of ch = framed ch.bit (oldest_of ch.outgoing)
+frame_of ch = option_map (framed ch.bit) (oldest_of ch.outgoing)
 
 -- What acknowledges a frame: its bit with message 0.
 abbrev pub acknowledgement : Bool → Frame
@@ -43,15 +44,15 @@ acknowledgement bit = record { bit = bit; payload = Acknowledgement }
 
 -- `put`: the message is last of the outgoing.
 abbrev pub after_put : Message → Channel → Channel
-after_put m ch = record { outgoing = with_last ch.outgoing m; bit = ch.bit; expected = ch.expected; arrived = ch.arrived }
+after_put m ch = record ch { outgoing = with_last ch.outgoing m }
 
 -- `take`: the oldest that has arrived is gone.
 abbrev pub after_take : Channel → Channel
-after_take ch = record { outgoing = ch.outgoing; bit = ch.bit; expected = ch.expected; arrived = rest_of ch.arrived }
+after_take ch = record ch { arrived = rest_of ch.arrived }
 
 -- A frame comes through: if its bit is the expected one, its message joins those that have arrived, and the expected bit flips.
 abbrev pub after_arrival : Message → Channel → Channel
-after_arrival m ch = record { outgoing = ch.outgoing; bit = ch.bit; expected = not ch.expected; arrived = with_last ch.arrived m }
+after_arrival m ch = record ch { expected = not ch.expected; arrived = with_last ch.arrived m }
 
 abbrev pub after_payload : Payload → Bool → Channel → Channel
 after_payload (Data m) bit ch = cond (differ bit ch.expected) ch (after_arrival m ch)
@@ -62,4 +63,4 @@ after_frame f ch = after_payload f.payload f.bit ch
 
 -- The acknowledgement comes through: the first outgoing message goes, and the bit flips.
 abbrev pub after_acknowledgement : Channel → Channel
-after_acknowledgement ch = record { outgoing = rest_of ch.outgoing; bit = not ch.bit; expected = ch.expected; arrived = ch.arrived }
+after_acknowledgement ch = record ch { outgoing = rest_of ch.outgoing; bit = not ch.bit }

@@ -1,6 +1,6 @@
 // One channel of an alternating post, and the steps of the protocol on it.
 ghost use Rattle.std.specs.Prelude.{◌≡◌, length, nat_lt};
-ghost use Rattle.alternating_bit.specs.Channels.{unused, differ, to_arrive, waiting_in, frame_of, after_put, after_take, after_frame, after_acknowledgement};
+ghost use Rattle.alternating_bit.specs.Channels.{unused, to_arrive, waiting_in, frame_of, after_put, after_take, after_frame, after_acknowledgement};
 
 use posts::MessageList;
 use wires::{Frame, Message, Payload};
@@ -58,13 +58,10 @@ impl Channel {
     pub fn frame(self) -> Option<Frame>
         ensures { result ≡ frame_of self }
     {
-        match self.outgoing.first() {
-            Some(message) => Some(Frame {
-                bit: self.bit,
-                payload: Payload::Data(message),
-            }),
-            None => None,
-        }
+        self.outgoing.first().map(|message| Frame {
+            bit: self.bit,
+            payload: Payload::Data(message),
+        })
     }
 
     pub fn put(self, message: Message) -> Channel
@@ -72,9 +69,7 @@ impl Channel {
     {
         Channel {
             outgoing: self.outgoing.with_last(message),
-            bit: self.bit,
-            expected: self.expected,
-            arrived: self.arrived,
+            ..self
         }
     }
 
@@ -83,10 +78,8 @@ impl Channel {
         ensures { result ≡ after_take self }
     {
         Channel {
-            outgoing: self.outgoing,
-            bit: self.bit,
-            expected: self.expected,
             arrived: self.arrived.rest(),
+            ..self
         }
     }
 
@@ -96,10 +89,9 @@ impl Channel {
     {
         match frame.payload {
             Payload::Data(message) if frame.bit == self.expected => Channel {
-                outgoing: self.outgoing,
-                bit: self.bit,
                 expected: !self.expected,
                 arrived: self.arrived.with_last(message),
+                ..self
             },
             _ => self,
         }
@@ -112,8 +104,7 @@ impl Channel {
         Channel {
             outgoing: self.outgoing.rest(),
             bit: !self.bit,
-            expected: self.expected,
-            arrived: self.arrived,
+            ..self
         }
     }
 }

@@ -31,7 +31,7 @@ put_moves k m c a b false e h law = kept_moves c a b (law.others c h (λ same. e
 take_moves : (k : ℕ) (m : Message) (c : ℕ) (a b : Posting) (here : Bool) → eqb k c ≡ here → c < a.channels → LawfulTake a k m b → Moves [] (cond here (m ∷ []) []) 0 c a b
 take_moves k m c a b true e h law = record {
   in_order = subst (λ x. a.waiting x ++ [] ≡ m ∷ b.waiting x) (eqb-true k c e) (append-nil (a.waiting k) ∙ law.oldest_goes);
-  due_falls = λ busy none. let z : ◌≡◌ {A = ℕ} 0 1 = cc in absurd (omega arith);
+  due_falls = λ busy none. cc;
 }
 take_moves k m c a b false e h law = kept_moves c a b (law.others c h (λ same. eqb-false k c e (sym same)))
 
@@ -43,16 +43,15 @@ tick_moves c a b h law = record {
 
 -- Order over one event and then the others.
 regroup : (before put taken between puts takens after : List Message) → before ++ put ≡ taken ++ between → between ++ puts ≡ takens ++ after → before ++ (put ++ puts) ≡ (taken ++ takens) ++ after
-regroup before put taken between puts takens after first later =
-    sym (append_assoc before put puts) ∙ ap (λ xs. xs ++ puts) first ∙ append_assoc taken between puts ∙ ap (λ xs. taken ++ xs) later ∙ sym (append_assoc taken takens after)
+regroup before put taken between puts takens after first later = cc (append_assoc before put puts, append_assoc taken between puts, append_assoc taken takens after)
 
 nothing_before : (xs ys : List Message) → xs ++ ys ≡ [] → xs ≡ []
 nothing_before [] ys e = refl
-nothing_before (x ∷ xs) ys e = let z : ◌≡◌ {A = ℕ} 0 1 = cc in absurd (omega arith)
+nothing_before (x ∷ xs) ys e = cc
 
 nothing_behind : (xs ys : List Message) → xs ++ ys ≡ [] → ys ≡ []
 nothing_behind [] ys e = e
-nothing_behind (x ∷ xs) ys e = let z : ◌≡◌ {A = ℕ} 0 1 = cc in absurd (omega arith)
+nothing_behind (x ∷ xs) ys e = cc
 
 still_waiting : (before put taken after : List Message) → before ≢ [] → taken ≡ [] → before ++ put ≡ taken ++ after → after ≢ []
 still_waiting before put taken after some none e gone = some (nothing_before before put (e ∙ ap (λ xs. xs ++ after) none ∙ gone))

@@ -1,5 +1,5 @@
 -- Lists of at most three messages: what their steps do to the messages that they hold.
-use Rattle.std.proofs.Common.{◌≡◌, ℕ, ◌+◌, ◌<◌, ◌≤◌, [], ◌∷◌, ◌++◌, length, Some, None, refl, arith}
+use Rattle.std.proofs.Common.{◌≡◌, ◌+◌, ◌<◌, ◌≤◌, [], ◌∷◌, ◌++◌, length, Some, None, refl, arith}
 use Rattle.posts.specs.MessageLists.{items, oldest_of, rest_of, with_last}
 use Rattle.posts.specs.declared.message_list.MessageList.{MessageList}
 use Rattle.posts.specs.declared.message_list.MessageList.TheVariants.{Empty, One, Two, Three}
@@ -18,16 +18,16 @@ last_is_behind_the_rest (Two a b) m some h = refl
 last_is_behind_the_rest (Three a b c) m some h = absurd (omega arith)
 
 pub first_and_rest : (l : MessageList) (m : Message) → oldest_of l ≡ Some m → items l ≡ m ∷ items (rest_of l)
-first_and_rest Empty m e = let z : ◌≡◌ {A = ℕ} 0 1 = cc in absurd (omega arith)
+first_and_rest Empty m e = cc
 first_and_rest (One a) m e = cc
 first_and_rest (Two a b) m e = cc
 first_and_rest (Three a b c) m e = cc
 
 pub empty_without_first : (l : MessageList) → oldest_of l ≡ None → l ≡ Empty
 empty_without_first Empty e = refl
-empty_without_first (One a) e = let z : ◌≡◌ {A = ℕ} 0 1 = cc in absurd (omega arith)
-empty_without_first (Two a b) e = let z : ◌≡◌ {A = ℕ} 0 1 = cc in absurd (omega arith)
-empty_without_first (Three a b c) e = let z : ◌≡◌ {A = ℕ} 0 1 = cc in absurd (omega arith)
+empty_without_first (One a) e = cc
+empty_without_first (Two a b) e = cc
+empty_without_first (Three a b c) e = cc
 
 pub rest_is_one_less : (l : MessageList) → length (items l) ≤ length (items (rest_of l)) + 1
 rest_is_one_less Empty = omega arith

@@ -1,31 +1,26 @@
 -- The queue post that the code has: what it means, and exactly what each of its calls does.
-use Rattle.std.specs.Prelude.{◌≡◌, ℕ, ◌<◌, Ok, Err, Option, Result, slice_index_or, slice_set}
-use Rattle.posts.specs.Answers.{NoSuchChannel}
-use Rattle.posts.specs.MessageLists.{items, oldest_of, rest_of, with_last}
+use Rattle.std.specs.Prelude.{◌≡◌, ℕ, List, [], ◌∷◌, ◌++◌, drop, Option, slice_get, slice_index_or, slice_set}
 use Rattle.posts.specs.Posting.{Posting}
-use Rattle.posts.specs.declared.message_list.MessageList.{MessageList}
-use Rattle.posts.specs.declared.message_list.MessageList.TheVariants.{Empty}
 use Rattle.posts.specs.declared.queue_post.QueuePost.{QueuePost}
-use Rattle.refusals.specs.declared.Refusal.{Refusal}
 use Rattle.wires.specs.declared.message.Message.{Message}
 
-abbrev pub queue_at : QueuePost → ℕ → MessageList
-queue_at s c = slice_index_or s.queues c Empty
+-- what waits in a channel, the oldest first
+abbrev pub queue_at : QueuePost → ℕ → List Message
+queue_at s c = (slice_index_or s.queues c (record { items = [] })).items
 
--- the queue of a channel that there is, or 18
-abbrev pub QueueAnswer : QueuePost → ℕ → Result MessageList Refusal → Type 0
-QueueAnswer s c (Ok q) = (c < 64) × (q ≡ queue_at s c)
-QueueAnswer s c (Err e) = NoSuchChannel 64 c e
+-- The messages of channel c are now ms, and nothing else changes.
+abbrev pub QueueChanged : QueuePost → ℕ → List Message → QueuePost → Type 0
+QueueChanged s c ms t = t.queues ≡ slice_set s.queues c (record { items = ms })
 
 abbrev pub queue_meaning : QueuePost → Posting
-queue_meaning s = record { channels = 64; lag = 1; waiting = λ c. items (queue_at s c); due = λ c. 0 }
+queue_meaning s = record { channels = 64; lag = 1; waiting = queue_at s; due = λ c. 0 }
 
 abbrev pub QueuePut : QueuePost → ℕ → Message → QueuePost → Type 0
-QueuePut s c m t = t.queues ≡ slice_set s.queues c (with_last (queue_at s c) m)
+QueuePut s c m t = QueueChanged s c (queue_at s c ++ m ∷ []) t
 
 -- an empty channel answers none, and stays empty
 abbrev pub QueueTake : QueuePost → ℕ → Option Message → QueuePost → Type 0
-QueueTake s c came t = (came ≡ oldest_of (queue_at s c)) × (t.queues ≡ slice_set s.queues c (rest_of (queue_at s c)))
+QueueTake s c came t = (came ≡ slice_get (queue_at s c) 0) × QueueChanged s c (drop 1 (queue_at s c)) t
 
 abbrev pub QueueTick : QueuePost → QueuePost → Type 0
 QueueTick s t = t.queues ≡ s.queues

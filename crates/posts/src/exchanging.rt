@@ -39,10 +39,9 @@ pub fn exchange<P: Post>(
     ensures never_late { IfOk result (λ v. NeverLate (P.Post.means post.old) v.items) }
 {
     let mut events = Vec::with_capacity(heap, calls.len())?;
+    // A loop and no chain: a chain's `collect` may ask for memory between the calls.
     for call in calls {
-        let event = try_call(post, *call);
-        // There is room for an event of each call, so this is never refused.
-        let _ = events.push(event);
+        events.push_reserved(try_call(post, *call));
     }
     Ok(events)
 }

@@ -4,6 +4,9 @@ ghost use Rattle.posts.specs.MessageLists.{items, oldest_of, rest_of, with_last}
 
 use wires::Message;
 
+// An enum of its own, since a channel of the alternating bit protocol, which holds two of these, is `Copy`: an `ArrayVec` is moved, and so is what
+// holds one. A struct with a model, which clauses see as a list, was tried too: a channel of such structs is not copied where it is used twice,
+// and `put`, `take` and the visits of the alternating post get no proof.
 #[derive(Clone, Copy)]
 pub enum MessageList {
     Empty,
@@ -30,9 +33,7 @@ impl MessageList {
     {
         match self {
             MessageList::Empty => None,
-            MessageList::One(a) => Some(a),
-            MessageList::Two(a, _) => Some(a),
-            MessageList::Three(a, _, _) => Some(a),
+            MessageList::One(a) | MessageList::Two(a, _) | MessageList::Three(a, _, _) => Some(a),
         }
     }
 
@@ -41,8 +42,7 @@ impl MessageList {
         ensures { result ≡ rest_of self }
     {
         match self {
-            MessageList::Empty => MessageList::Empty,
-            MessageList::One(_) => MessageList::Empty,
+            MessageList::Empty | MessageList::One(_) => MessageList::Empty,
             MessageList::Two(_, b) => MessageList::One(b),
             MessageList::Three(_, b, c) => MessageList::Two(b, c),
         }

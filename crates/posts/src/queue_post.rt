@@ -1,17 +1,22 @@
 // The state of a queue post, with what holds of it as long as it exists.
-ghost use Rattle.std.specs.Prelude.{◌≡◌, ℕ, ◌<◌, ◌≤◌, length, slice_index_or};
-ghost use Rattle.posts.specs.MessageLists.{items};
-ghost use Rattle.posts.specs.declared.message_list.MessageList.TheVariants.{Empty};
+ghost use Rattle.std.specs.Prelude.{◌≡◌, ◌≤◌, length};
+ghost use Rattle.std.specs.List.{All};
+ghost use Rattle.arrayvec.specs.ArrayVec.{array_vec_len};
+ghost use Rattle.posts.specs.declared.queue_post.TheConstants.{CHANNELS};
 
-use crate::message_list::MessageList;
+use arrayvec::ArrayVec;
+use wires::Message;
 
 pub mod calls;
 pub mod making;
 
+// How many channels there are.
+const CHANNELS: usize = 64;
+
 #[derive(Drop)]
 pub struct QueuePost {
-    // What waits in each channel.
-    queues: [MessageList; 64],
-    ghost all: { length queues ≡ 64 },
-    ghost few: { (c : ℕ) → c < 64 → length (items (slice_index_or queues c Empty)) ≤ 2 },
+    // What waits in each channel, the oldest first.
+    queues: [ArrayVec<Message, 2>; CHANNELS],
+    ghost all: { length queues ≡ CHANNELS },
+    ghost few: { All (λ q. array_vec_len q ≤ 2) queues },
 }

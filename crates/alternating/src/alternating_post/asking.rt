@@ -26,9 +26,9 @@ impl<W: Wire> AlternatingPost<W> {
     pub(super) fn channel(&self, channel: usize) -> Result<Channel, Refusal>
         ensures { ChannelAnswer self.now.channels channel result }
     {
-        if channel >= 64 {
-            return Err(Refusal::NothingSuchToCarry);
-        }
-        Ok(self.channels[channel])
+        self.channels
+            .get(channel)
+            .copied()
+            .ok_or(Refusal::NothingSuchToCarry)
     }
 }

@@ -3,8 +3,8 @@ ghost use Rattle.alternating.specs.AlternatingPosts.{alternating_meaning, Altern
 ghost use Rattle.alternating.specs.Visits.{VisitedBelow};
 ghost use Rattle.alternating.specs.Keeping.{lawful, put_lawful, take_lawful, tick_lawful};
 
-use crate::alternating_post::AlternatingPost;
-use crate::alternating_post::visiting::visit;
+use crate::alternating_post::visiting::Lines;
+use crate::alternating_post::{AlternatingPost, CHANNELS};
 use posts::Post;
 use refusals::Refusal;
 use wires::{Message, Wire};
@@ -22,7 +22,7 @@ impl<W: Wire> Post for AlternatingPost<W> {
         record { always_lawful = lawful laws; put_is_lawful = put_lawful laws; take_is_lawful = take_lawful laws; tick_is_lawful = tick_lawful laws } };
 
     fn channels(&self) -> usize {
-        64
+        CHANNELS
     }
 
     fn lag(&self) -> usize {
@@ -51,8 +51,8 @@ impl<W: Wire> Post for AlternatingPost<W> {
     }
 
     fn tick(&mut self) {
-        for c in 0..64 {
-            visit(self, c);
+        for channel in 0..CHANNELS {
+            self.visit(Lines { channel });
         }
     }
 }

@@ -2,7 +2,7 @@
 ghost use Rattle.std.specs.Prelude.{◌≡◌, replicate};
 ghost use Rattle.alternating_bit.specs.Channels.{unused};
 
-use crate::alternating_post::AlternatingPost;
+use crate::alternating_post::{AlternatingPost, CHANNELS};
 use alternating_bit::Channel;
 use wires::Wire;
 
@@ -14,7 +14,7 @@ impl<W: Wire> AlternatingPost<W> {
     {
         AlternatingPost {
             wire,
-            channels: [Channel::new(); 64],
+            channels: [Channel::new(); CHANNELS],
         }
     }
 }

@@ -1,7 +1,8 @@
 // A visit of one channel: a message is sent, and acknowledged where it comes through.
-ghost use Rattle.std.specs.Prelude.{◌≡◌, ◌<◌, Some, None, MatchBool};
-ghost use Rattle.alternating_bit.specs.Channels.{frame_of, after_frame};
-ghost use Rattle.alternating.specs.Visits.{Acknowledging, Visit, Visited};
+ghost use Rattle.std.specs.Prelude.{◌+◌, ◌*◌, ◌<◌};
+ghost use Rattle.alternating_bit.specs.Channels.{after_frame};
+ghost use Rattle.alternating.specs.Visits.{Carried, Acknowledging, Visit, Visited};
+ghost use Rattle.alternating.specs.declared.alternating_post.TheConstants.{CHANNELS};
 
 use crate::alternating_post::AlternatingPost;
 use alternating_bit::Channel;
@@ -10,62 +11,71 @@ use wires::{Frame, Payload, Wire};
 // Carries a frame on a line that there is: does it come through?
 fn comes_through<W: Wire>(wire: &mut W, line: usize, frame: Frame) -> bool
     requires { line < 128 }
-    ensures { MatchBool result (W.Wire.carries wire.old line frame (Some frame) wire.new) (W.Wire.carries wire.old line frame None wire.new) }
+    ensures { Carried W.Wire.carries line wire.old frame result wire.new }
 {
-    match wire.carry(line, frame) {
-        Ok(came) => came.is_some(),
-        // There is such a line, so this is never so.
-        Err(_) => false,
+    // There is such a line, so this is never an error.
+    matches!(wire.carry(line, frame), Ok(Some(_)))
+}
+
+// The two lines of one channel.
+#[derive(Clone, Copy)]
+pub(super) struct Lines {
+    pub(super) channel: usize,
+    ghost few: { channel < CHANNELS },
+}
+
+impl Lines {
+    // A message goes out: does it come through?
+    fn carry_out<W: Wire>(self, wire: &mut W, frame: Frame) -> bool
+        ensures { Carried W.Wire.carries (2 * self.channel) wire.old frame result wire.new }
+    {
+        comes_through(wire, 2 * self.channel, frame)
+    }
+
+    // An acknowledgement goes back: does it come through?
+    fn carry_back<W: Wire>(self, wire: &mut W, frame: Frame) -> bool
+        ensures { Carried W.Wire.carries (2 * self.channel + 1) wire.old frame result wire.new }
+    {
+        comes_through(wire, 2 * self.channel + 1, frame)
+    }
+
+    // A frame has come through: its bit goes back, whether its message is new or not.
+    fn acknowledge<W: Wire>(self, wire: &mut W, channel: Channel, frame: Frame) -> Channel
+        ensures { Acknowledging W.Wire.carries self.channel frame.bit wire.old (after_frame frame channel) wire.new result }
+    {
+        let came = channel.received(frame);
+        let back = Frame {
+            bit: frame.bit,
+            payload: Payload::Acknowledgement,
+        };
+        if self.carry_back(wire, back) {
+            came.acknowledged()
+        } else {
+            came
+        }
+    }
+
+    // What a visit makes of the channel.
+    fn visit<W: Wire>(self, wire: &mut W, channel: Channel) -> Channel
+        ensures { Visit W.Wire.carries self.channel wire.old channel wire.new result }
+    {
+        let Some(frame) = channel.frame() else {
+            return channel;
+        };
+        if self.carry_out(wire, frame) {
+            self.acknowledge(wire, channel, frame)
+        } else {
+            channel
+        }
     }
 }
 
-// A frame has come through: its bit goes back on line 2 * c + 1, whether its message is new or not.
-fn acknowledge<W: Wire>(wire: &mut W, c: usize, channel: Channel, frame: Frame) -> Channel
-    requires { c < 64 }
-    ensures { Acknowledging W.Wire.carries c frame.bit wire.old (after_frame frame channel) wire.new result }
-{
-    let came = channel.received(frame);
-    let back = Frame {
-        bit: frame.bit,
-        payload: Payload::Acknowledgement,
-    };
-    if comes_through(wire, 2 * c + 1, back) {
-        came.acknowledged()
-    } else {
-        came
+impl<W: Wire> AlternatingPost<W> {
+    // One channel is visited, and no other.
+    pub(super) fn visit(&mut self, lines: Lines)
+        ensures { Visited W.Wire.carries self.old.wire self.old.channels lines.channel self.new.wire self.new.channels }
+    {
+        let channel = self.channels[lines.channel];
+        self.channels[lines.channel] = lines.visit(&mut self.wire, channel);
     }
-}
-
-// The channel's frame goes out on line 2 * c.
-fn send<W: Wire>(wire: &mut W, c: usize, channel: Channel, frame: Frame) -> Channel
-    requires few { c < 64 }
-    requires its { frame_of channel ≡ Some frame }
-    ensures { Visit W.Wire.carries c wire.old channel wire.new result }
-{
-    if comes_through(wire, 2 * c, frame) {
-        acknowledge(wire, c, channel, frame)
-    } else {
-        channel
-    }
-}
-
-// What a visit makes of a channel.
-fn visited<W: Wire>(wire: &mut W, c: usize, channel: Channel) -> Channel
-    requires { c < 64 }
-    ensures { Visit W.Wire.carries c wire.old channel wire.new result }
-{
-    match channel.frame() {
-        Some(frame) => send(wire, c, channel, frame),
-        None => channel,
-    }
-}
-
-// Channel c is visited, and no other.
-pub(super) fn visit<W: Wire>(post: &mut AlternatingPost<W>, c: usize)
-    requires { c < 64 }
-    ensures { Visited W.Wire.carries post.old.wire post.old.channels c post.new.wire post.new.channels }
-{
-    let channel = post.channels[c];
-    let next = visited(&mut post.wire, c, channel);
-    post.channels[c] = next;
 }

@@ -1,23 +1,22 @@
 // The queue post behind the interface.
-ghost use Rattle.posts.specs.QueuePosts.{QueueAnswer, queue_meaning, QueuePut, QueueTake, QueueTick};
+ghost use Rattle.std.specs.Prelude.{◌<◌, MatchResult};
+ghost use Rattle.posts.specs.Answers.{NoSuchChannel};
+ghost use Rattle.posts.specs.QueuePosts.{queue_meaning, QueuePut, QueueTake, QueueTick};
 ghost use Rattle.std.proofs.Common.{rules};
 
-use crate::message_list::MessageList;
 use crate::post::Post;
-use crate::queue_post::QueuePost;
+use crate::queue_post::{CHANNELS, QueuePost};
 use refusals::Refusal;
 use wires::Message;
 
-impl QueuePost {
-    // What waits in a channel, where there is such a channel.
-    fn queue(&self, channel: usize) -> Result<MessageList, Refusal>
-        ensures { QueueAnswer self.now channel result }
-    {
-        if channel >= 64 {
-            return Err(Refusal::NothingSuchToCarry);
-        }
-        Ok(self.queues[channel])
+// Refuses the number of a channel that there is not. (A `get_mut` of the array would do it too, but says nothing of what the array ends as.)
+fn check_channel(channel: usize) -> Result<(), Refusal>
+    ensures { MatchResult result (λ _. channel < CHANNELS) (NoSuchChannel CHANNELS channel) }
+{
+    if channel >= CHANNELS {
+        return Err(Refusal::NothingSuchToCarry);
     }
+    Ok(())
 }
 
 impl Post for QueuePost {
@@ -32,7 +31,7 @@ impl Post for QueuePost {
     ghost laws = { Prim.search rules };
 
     fn channels(&self) -> usize {
-        64
+        CHANNELS
     }
 
     fn lag(&self) -> usize {
@@ -40,23 +39,19 @@ impl Post for QueuePost {
     }
 
     fn waiting(&self, channel: usize) -> Result<usize, Refusal> {
-        let queue = self.queue(channel)?;
-        Ok(queue.len())
+        check_channel(channel)?;
+        Ok(self.queues[channel].len())
     }
 
     fn put(&mut self, channel: usize, message: Message) -> Result<(), Refusal> {
-        let queue = self.queue(channel)?;
-        if queue.len() >= 2 {
-            return Err(Refusal::ChannelFull);
-        }
-        self.queues[channel] = queue.with_last(message);
-        Ok(())
+        check_channel(channel)?;
+        let queue = &mut self.queues[channel];
+        queue.try_push(message).map_err(|_| Refusal::ChannelFull)
     }
 
     fn take(&mut self, channel: usize) -> Result<Option<Message>, Refusal> {
-        let queue = self.queue(channel)?;
-        self.queues[channel] = queue.rest();
-        Ok(queue.first())
+        check_channel(channel)?;
+        Ok(self.queues[channel].pop_at(0))
     }
 
     // What is put can be taken at once: there is nothing to bring nearer.

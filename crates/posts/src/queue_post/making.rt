@@ -1,17 +1,17 @@
 // How a queue post is made.
-ghost use Rattle.std.specs.Prelude.{◌≡◌, replicate};
-ghost use Rattle.posts.specs.declared.message_list.MessageList.TheVariants.{Empty};
+ghost use Rattle.std.specs.Prelude.{◌≡◌, [], replicate};
 
-use crate::message_list::MessageList;
 use crate::queue_post::QueuePost;
+use arrayvec::ArrayVec;
+use std::array;
 
 impl QueuePost {
     // Nothing waits.
     pub fn new() -> QueuePost
-        ensures { result.queues ≡ replicate 64 Empty }
+        ensures { result.queues ≡ replicate 64 (record { items = [] }) }
     {
         QueuePost {
-            queues: [MessageList::Empty; 64],
+            queues: array::from_fn(|_| ArrayVec::new()),
         }
     }
 }

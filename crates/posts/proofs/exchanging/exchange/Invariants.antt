@@ -6,7 +6,9 @@ use Rattle.posts.proofs.exchanging.exchange.Given as goal
 abbrev pub invariant-loop-call : goal.invariant-loop-call
 invariant-loop-call g l =
     let p = g.P.Post in
-    (map call_of (vec_items l.events) ≡ take l.call-index l.calls)
-    × Happened p.means p.puts p.takes p.ticks (vec_items l.events) l.initial.post l.post
-    × (vec_len l.events ≡ l.call-index)
-    × (length l.calls ≤ vec_capacity l.events)
+    record {
+      tried : map call_of (vec_items l.events) ≡ take l.call-index l.calls;
+      happened : Happened p.means p.puts p.takes p.ticks (vec_items l.events) l.initial.post l.post;
+      one_each : vec_len l.events ≡ l.call-index;
+      room : length l.calls ≤ vec_capacity l.events;
+    }

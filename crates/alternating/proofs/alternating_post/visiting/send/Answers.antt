@@ -1,9 +1,0 @@
-use Rattle.std.proofs.Common.{refl}
-use Rattle.alternating.specs.Visits.{message_lost, message_through}
-use Rattle.alternating.proofs.alternating_post.visiting.send.Goals as goal
-
-pub returns-then-comes_through : goal.returns-then-comes_through
-returns-then-comes_through g c = message_through c.requires.its c.if-comes_through.ensures c.acknowledge.ensures
-
-pub returns-else-comes_through : goal.returns-else-comes_through
-returns-else-comes_through g c = message_lost c.requires.its c.if-comes_through.ensures refl
