@@ -2,16 +2,11 @@
 #![tactic(auto)]
 
 mod messages;
-mod refused;
 
 use messages::send_two;
 
-fn show(rt: &HostRuntime) -> anyhow::Result<()> {
-    println!(rt; "two messages over a wire that loses two frames of three")?;
-    send_two(rt)?;
-    Ok(())
-}
-
 fn main(rt: HostRuntime) -> anyhow::Result<()> {
-    show(&rt)
+    println!(rt; "two messages over a wire that loses two frames of three")?;
+    send_two(&rt, rt.alloc())?;
+    Ok(())
 }

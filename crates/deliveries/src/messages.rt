@@ -1,27 +1,27 @@
 // Messages over a wire that loses frames, with every frame shown, tick by tick.
-use crate::refused::show_refusal;
 use alternating::AlternatingPost;
 use posts::{Post, PostCall, PostEvent, exchange};
 use refusals::Refusal;
+use std::alloc::Global;
 use std::io;
-use wires::{Frame, Message, PatternWire, Payload};
+use wires::{Message, PatternWire};
 
-fn show_put(rt: &HostRuntime, answer: Result<(), Refusal>) -> io::Result<()> {
+fn show_put(rt: &impl Print, answer: Result<(), Refusal>) -> io::Result<()> {
     match answer {
         Ok(()) => println!(rt; "granted"),
-        Err(refusal) => show_refusal(rt, refusal),
+        Err(refusal) => println!(rt; "{refusal}"),
     }
 }
 
-fn show_take(rt: &HostRuntime, answer: Result<Option<Message>, Refusal>) -> io::Result<()> {
+fn show_take(rt: &impl Print, answer: Result<Option<Message>, Refusal>) -> io::Result<()> {
     match answer {
         Ok(Some(message)) => println!(rt; "{message:?}"),
         Ok(None) => println!(rt; "not yet"),
-        Err(refusal) => show_refusal(rt, refusal),
+        Err(refusal) => println!(rt; "{refusal}"),
     }
 }
 
-fn show(rt: &HostRuntime, event: PostEvent) -> io::Result<()> {
+fn show(rt: &impl Print, event: PostEvent) -> io::Result<()> {
     match event {
         PostEvent::Put(channel, message, answer) => {
             print!(rt; "  put {channel} {message:?}: ")?;
@@ -38,32 +38,23 @@ fn show(rt: &HostRuntime, event: PostEvent) -> io::Result<()> {
 
 // Tries the calls, and shows what each answered.
 fn try_all(
-    rt: &HostRuntime,
+    rt: &impl Print,
+    alloc: Global,
     post: &mut AlternatingPost<PatternWire>,
     calls: &[PostCall],
 ) -> io::Result<()> {
-    let events = exchange(rt.alloc(), post, calls)?;
-    for event in events.iter() {
+    for event in &exchange(alloc, post, calls)? {
         show(rt, *event)?;
     }
     Ok(())
 }
 
-fn show_frame(rt: &HostRuntime, frame: Frame) -> io::Result<()> {
-    let bit = frame.bit as u8;
-    match frame.payload {
-        Payload::Data(message) => print!(rt; "{message:?} with bit {bit}"),
-        Payload::Acknowledgement => print!(rt; "acknowledgement of bit {bit}"),
-    }
-}
-
 // What the next tick sends on channel 0, and what the wire will do with it.
-fn show_next(rt: &HostRuntime, post: &AlternatingPost<PatternWire>) -> io::Result<()> {
-    let frame = match post.next_frame(0) {
-        Ok(Some(frame)) => frame,
-        _ => return println!(rt; "nothing is sent"),
+fn show_next(rt: &impl Print, post: &AlternatingPost<PatternWire>) -> io::Result<()> {
+    let Ok(Some(frame)) = post.next_frame(0) else {
+        return println!(rt; "nothing is sent");
     };
-    show_frame(rt, frame)?;
+    print!(rt; "{frame}")?;
     if post.wire().loses_next(0).unwrap_or(false) {
         return println!(rt; ": lost");
     }
@@ -74,7 +65,7 @@ fn show_next(rt: &HostRuntime, post: &AlternatingPost<PatternWire>) -> io::Resul
 }
 
 // Two messages go through channel 0 within as many ticks as the lag; there is no room for a third, and no channel 64.
-pub(crate) fn send_two(rt: &HostRuntime) -> io::Result<()> {
+pub(crate) fn send_two(rt: &impl Print, alloc: Global) -> io::Result<()> {
     let mut post = AlternatingPost::new(PatternWire::new(b"110"));
     println!(rt; "  lag {}", post.lag())?;
     let calls = [
@@ -83,11 +74,11 @@ pub(crate) fn send_two(rt: &HostRuntime) -> io::Result<()> {
         PostCall::Put(0, Message::Token),
         PostCall::Put(64, Message::Bottle),
     ];
-    try_all(rt, &mut post, &calls)?;
+    try_all(rt, alloc, &mut post, &calls)?;
     for tick in 1..=post.lag() {
         print!(rt; "  tick {tick}: ")?;
         show_next(rt, &post)?;
-        try_all(rt, &mut post, &[PostCall::Tick, PostCall::Take(0)])?;
+        try_all(rt, alloc, &mut post, &[PostCall::Tick, PostCall::Take(0)])?;
     }
     Ok(())
 }

@@ -1,49 +1,53 @@
 // One line of input: which call it is, and what both diners answer.
-use crate::table::{Table, code, letter};
+use crate::table::{Change, Table, code, letter};
 use dining::Diner;
 use std::io;
 
-// The number that the word spells; one that is no number counts as a number beyond every drinker.
+// What stands for a word that is no number: a number beyond every drinker.
+const BEYOND: usize = 1000;
+
+// The number that the word spells. The other program of calls has the same line: a crate to share it would be no plainer.
 fn number(word: Option<&str>) -> usize {
-    match word {
-        Some(digits) => digits.parse::<usize>().unwrap_or(1000),
-        None => 1000,
-    }
+    word.and_then(|digits| digits.parse().ok())
+        .unwrap_or(BEYOND)
 }
 
-fn print_phases<D: Diner>(rt: &HostRuntime, diner: &D) -> io::Result<()> {
+fn print_phases<D: Diner>(rt: &impl Print, diner: &D) -> io::Result<()> {
     print!(rt; " ")?;
     for p in 0..diner.drinkers() {
-        print!(rt; "{}", letter(diner, p))?;
+        print!(rt; "{}", letter(diner.phase(p)))?;
     }
     Ok(())
 }
 
-fn make(rt: &HostRuntime, table: &mut Table, drinkers: usize) -> io::Result<()> {
+fn make(rt: &impl Print, table: &mut Table, drinkers: usize) -> io::Result<()> {
     match Table::new(drinkers) {
         Ok(made) => {
             *table = made;
             println!(rt; "graph of {drinkers}")
         }
-        Err(refusal) => println!(rt; "refused {}", refusal.number()),
+        Err(refusal) => println!(rt; "refused {}", u8::from(refusal)),
     }
 }
 
-fn join(rt: &HostRuntime, table: &mut Table, lower: usize, higher: usize) -> io::Result<()> {
+fn join(rt: &impl Print, table: &mut Table, lower: usize, higher: usize) -> io::Result<()> {
     match table.join(lower, higher) {
         Ok(bottle) => println!(rt; "bottle {bottle}"),
-        Err(refusal) => println!(rt; "refused {}", refusal.number()),
+        Err(refusal) => println!(rt; "refused {}", u8::from(refusal)),
     }
 }
 
-fn show_answers(rt: &HostRuntime, table: &Table, forks: u8, queue: u8) -> io::Result<()> {
+// Both diners are asked for the same change.
+fn change(rt: &impl Print, table: &mut Table, change: Change) -> io::Result<()> {
+    let forks = code(change.ask(&mut table.forks));
+    let queue = code(change.ask(&mut table.queue));
     print!(rt; "{forks} {queue}")?;
     print_phases(rt, &table.forks)?;
     print_phases(rt, &table.queue)?;
     println!(rt; "")
 }
 
-pub(crate) fn run_line(rt: &HostRuntime, table: &mut Table, line: &str) -> io::Result<()> {
+pub(crate) fn run_line(rt: &impl Print, table: &mut Table, line: &str) -> io::Result<()> {
     let mut words = line.split(' ');
     let call = words.next();
     let first = number(words.next());
@@ -51,21 +55,9 @@ pub(crate) fn run_line(rt: &HostRuntime, table: &mut Table, line: &str) -> io::R
     match call {
         Some("graph") => make(rt, table, first),
         Some("join") => join(rt, table, first, second),
-        Some("hungry") => {
-            let forks = code(table.forks.hungry(first));
-            let queue = code(table.queue.hungry(first));
-            show_answers(rt, table, forks, queue)
-        }
-        Some("done") => {
-            let forks = code(table.forks.done(first));
-            let queue = code(table.queue.done(first));
-            show_answers(rt, table, forks, queue)
-        }
-        Some("turn") => {
-            table.forks.turn();
-            table.queue.turn();
-            show_answers(rt, table, 0, 0)
-        }
+        Some("hungry") => change(rt, table, Change::Hungry(first)),
+        Some("done") => change(rt, table, Change::Done(first)),
+        Some("turn") => change(rt, table, Change::Turn),
         _ => println!(rt; "no such call"),
     }
 }

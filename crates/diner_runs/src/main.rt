@@ -4,22 +4,13 @@
 mod calls;
 mod table;
 
-use anyhow::anyhow;
 use calls::run_line;
 use table::Table;
 
-fn run(rt: &HostRuntime) -> anyhow::Result<()> {
-    let mut table = match Table::new(1) {
-        Ok(table) => table,
-        Err(_) => return Err(anyhow!("a graph of one drinker was refused")),
-    };
+fn main(rt: HostRuntime) -> anyhow::Result<()> {
+    let mut table = Table::new(1)?;
     for line in rt.lines(rt.alloc()) {
-        let line = line?;
-        run_line(rt, &mut table, line.as_str())?;
+        run_line(&rt, &mut table, &line?)?;
     }
     Ok(())
-}
-
-fn main(rt: HostRuntime) -> anyhow::Result<()> {
-    run(&rt)
 }

@@ -31,9 +31,28 @@ impl Table {
     }
 }
 
-// A letter for a phase.
-pub(crate) fn letter<D: Diner>(diner: &D, p: usize) -> char {
-    match diner.phase(p) {
+// A change that a diner can be asked for.
+#[derive(Clone, Copy)]
+pub(crate) enum Change {
+    Hungry(usize),
+    Done(usize),
+    Turn,
+}
+
+impl Change {
+    pub(crate) fn ask<D: Diner>(self, diner: &mut D) -> Result<(), Refusal> {
+        match self {
+            Change::Hungry(p) => diner.hungry(p)?,
+            Change::Done(p) => diner.done(p)?,
+            Change::Turn => diner.turn(),
+        }
+        Ok(())
+    }
+}
+
+// The letter that is printed for a phase.
+pub(crate) fn letter(phase: Result<Phase, Refusal>) -> char {
+    match phase {
         Ok(Phase::Thinking) => 't',
         Ok(Phase::Hungry) => 'h',
         Ok(Phase::Eating) => 'e',
@@ -41,10 +60,7 @@ pub(crate) fn letter<D: Diner>(diner: &D, p: usize) -> char {
     }
 }
 
-// 0 for a call that is granted, else the number of the refusal.
+// The number that is printed for an answer: 0 where the change is granted, else the number of the refusal.
 pub(crate) fn code(answer: Result<(), Refusal>) -> u8 {
-    match answer {
-        Ok(()) => 0,
-        Err(refusal) => refusal.number(),
-    }
+    answer.map_or_else(u8::from, |()| 0)
 }

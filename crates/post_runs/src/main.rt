@@ -7,15 +7,10 @@ mod setup;
 use calls::run_line;
 use setup::Setup;
 
-fn run(rt: &HostRuntime) -> anyhow::Result<()> {
+fn main(rt: HostRuntime) -> anyhow::Result<()> {
     let mut setup = Setup::new(b"0");
     for line in rt.lines(rt.alloc()) {
-        let line = line?;
-        run_line(rt, &mut setup, line.as_str())?;
+        run_line(&rt, &mut setup, &line?)?;
     }
     Ok(())
-}
-
-fn main(rt: HostRuntime) -> anyhow::Result<()> {
-    run(&rt)
 }

@@ -30,37 +30,34 @@ impl Setup {
         bit: usize,
         message: usize,
     ) -> Result<bool, Refusal> {
-        let frame = Frame::from_numbers(bit, message)?;
-        let came = self.wire.carry(line, frame)?;
-        Ok(came.is_some())
+        let frame = Frame::try_from((bit, message))?;
+        Ok(self.wire.carry(line, frame)?.is_some())
     }
 }
 
-fn put<P: Post>(post: &mut P, channel: usize, message: usize) -> Result<(), Refusal> {
-    post.put(channel, Message::from_number(message)?)
+// What a post can be asked, with the numbers of the line.
+#[derive(Clone, Copy)]
+pub(crate) enum Question {
+    Put(usize, usize),
+    Take(usize),
+    Waiting(usize),
 }
 
-// 0 for a put that is granted, else the number of the refusal.
-pub(crate) fn put_code<P: Post>(post: &mut P, channel: usize, message: usize) -> usize {
-    match put(post, channel, message) {
-        Ok(()) => 0,
-        Err(refusal) => refusal.number() as usize,
+impl Question {
+    // The number that the post answers: of a message that is taken its number, 0 for "not yet" and for a put that is granted.
+    pub(crate) fn ask<P: Post>(self, post: &mut P) -> Result<usize, Refusal> {
+        match self {
+            Question::Put(channel, message) => {
+                post.put(channel, Message::try_from(message)?)?;
+                Ok(0)
+            }
+            Question::Take(channel) => Ok(post.take(channel)?.map_or(0, usize::from)),
+            Question::Waiting(channel) => post.waiting(channel),
+        }
     }
 }
 
-// The number of the message that is taken, 0 for "not yet", else the number of the refusal.
-pub(crate) fn take_code<P: Post>(post: &mut P, channel: usize) -> usize {
-    match post.take(channel) {
-        Ok(Some(message)) => message.number(),
-        Ok(None) => 0,
-        Err(refusal) => refusal.number() as usize,
-    }
-}
-
-// How many messages wait, or the number of the refusal.
-pub(crate) fn waiting_code<P: Post>(post: &P, channel: usize) -> usize {
-    match post.waiting(channel) {
-        Ok(count) => count,
-        Err(refusal) => refusal.number() as usize,
-    }
+// The number that is printed: what is answered, or the number of the refusal.
+pub(crate) fn code(answer: Result<usize, Refusal>) -> usize {
+    answer.unwrap_or_else(|refusal| usize::from(u8::from(refusal)))
 }

@@ -29,7 +29,7 @@ fn ends_that_are_refused(rt: HostRuntime) -> Result<(), Fail> {
         })
     );
     assert_eq!(rt; graph.ends(2), None);
-    assert_eq!(rt; graph.shared_by(2).bits(), 3);
+    assert_eq!(rt; u32::from(graph.shared_by(2)), 3);
     Ok(())
 }
 

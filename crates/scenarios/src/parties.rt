@@ -4,36 +4,32 @@ use graph::Graph;
 use refusals::Refusal;
 use sets::Set;
 
+// Four drinkers, and a bottle for each of these pairs.
+fn four_with(pairs: &[(usize, usize)]) -> Result<Graph, Refusal> {
+    let mut graph = Graph::new(4)?;
+    for (lower, higher) in pairs {
+        graph.join(*lower, *higher)?;
+    }
+    Ok(graph)
+}
+
 // Four drinkers in a ring: 0 beside 1, 1 beside 2, 2 beside 3, 3 beside 0.
 pub(crate) fn ring() -> Result<Graph, Refusal> {
-    let mut graph = Graph::new(4)?;
-    graph.join(0, 1)?;
-    graph.join(1, 2)?;
-    graph.join(2, 3)?;
-    graph.join(0, 3)?;
-    Ok(graph)
+    four_with(&[(0, 1), (1, 2), (2, 3), (0, 3)])
 }
 
 // Drinker 0 in the middle, beside 1, 2 and 3, who have no other neighbour.
 pub(crate) fn star() -> Result<Graph, Refusal> {
-    let mut graph = Graph::new(4)?;
-    graph.join(0, 1)?;
-    graph.join(0, 2)?;
-    graph.join(0, 3)?;
-    Ok(graph)
+    four_with(&[(0, 1), (0, 2), (0, 3)])
 }
 
 // Who eats, as the bits of a set.
 pub(crate) fn eating<D: Diner>(diner: &D) -> u32 {
     let mut who = Set::empty();
-    for p in 0..diner.drinkers() {
-        if let Ok(phase) = diner.phase(p) {
-            if phase == Phase::Eating {
-                who.insert(p);
-            }
-        }
+    for p in (0..diner.drinkers()).filter(|p| diner.phase(*p) == Ok(Phase::Eating)) {
+        who.insert(p);
     }
-    who.bits()
+    u32::from(who)
 }
 
 // All these become hungry, in this order.

@@ -8,41 +8,18 @@ fn lag_over(pattern: &[u8]) -> usize {
     AlternatingPost::new(PatternWire::new(pattern)).lag()
 }
 
-// A pattern, its bound, and the lag over it.
-#[derive(Drop)]
-struct Known {
-    pattern: &'static [u8],
-    bound: usize,
-    lag: usize,
-}
-
+// Patterns, with the bound of each and the lag over it.
 #[test]
 fn bounds_and_lags(rt: HostRuntime) {
-    let known = [
-        Known {
-            pattern: b"0",
-            bound: 0,
-            lag: 2,
-        },
-        Known {
-            pattern: b"101",
-            bound: 2,
-            lag: 12,
-        },
-        Known {
-            pattern: b"11111110",
-            bound: 7,
-            lag: 72,
-        },
-        Known {
-            pattern: b"11101111",
-            bound: 7,
-            lag: 72,
-        },
+    let known: [(&[u8], usize, usize); 4] = [
+        (b"0", 0, 2),
+        (b"101", 2, 12),
+        (b"11111110", 7, 72),
+        (b"11101111", 7, 72),
     ];
-    for case in &known {
-        assert_eq!(rt; check_pattern(case.pattern), Ok(case.bound));
-        assert_eq!(rt; lag_over(case.pattern), case.lag);
+    for (pattern, bound, lag) in &known {
+        assert_eq!(rt; check_pattern(pattern), Ok(*bound));
+        assert_eq!(rt; lag_over(pattern), *lag);
     }
 }
 

@@ -1,7 +1,6 @@
 // A walk through the library: a graph is built, and both diners take every drinker from hungry to done.
 #![tactic(auto)]
 
-use dining::Diner;
 use forks::ForkDiner;
 use graph::Graph;
 use queueing::QueueDiner;
@@ -12,26 +11,16 @@ mod meals;
 use graphs::{join_all, show_drinkers};
 use meals::serve_all;
 
-fn walk(rt: &HostRuntime) -> anyhow::Result<()> {
+fn main(rt: HostRuntime) -> anyhow::Result<()> {
     println!(rt; "a graph of five drinkers")?;
-    let mut graph = match Graph::new(5) {
-        Ok(graph) => graph,
-        Err(refusal) => {
-            println!(rt; "  refused with {} ({refusal:?})", refusal.number())?;
-            return Ok(());
-        }
-    };
-    join_all(rt, &mut graph)?;
-    show_drinkers(rt, &graph)?;
+    let mut graph = Graph::new(5)?;
+    join_all(&rt, &mut graph)?;
+    show_drinkers(&rt, &graph)?;
     // Both diners hear of the hungry in this order.
     let order = [3, 1, 4, 0, 2];
     println!(rt; "the fork diner")?;
-    serve_all(rt, &mut ForkDiner::new(&graph), &order)?;
+    serve_all(&rt, &mut ForkDiner::new(&graph), &order)?;
     println!(rt; "the queue diner")?;
-    serve_all(rt, &mut QueueDiner::new(&graph), &order)?;
+    serve_all(&rt, &mut QueueDiner::new(&graph), &order)?;
     Ok(())
-}
-
-fn main(rt: HostRuntime) -> anyhow::Result<()> {
-    walk(&rt)
 }

@@ -3,43 +3,30 @@ use dining::{Diner, Phase, pass_on};
 use refusals::Refusal;
 use std::io;
 
-fn show(rt: &HostRuntime, call: &str, p: usize, answer: Result<(), Refusal>) -> io::Result<()> {
+fn show(rt: &impl Print, call: &str, p: usize, answer: Result<(), Refusal>) -> io::Result<()> {
     match answer {
         Ok(()) => println!(rt; "  {call} {p}: granted"),
-        Err(refusal) => {
-            let number = refusal.number();
-            println!(rt; "  {call} {p}: refused with {number} ({refusal:?})")
-        }
+        Err(refusal) => println!(rt; "  {call} {p}: {refusal}"),
     }
 }
 
 fn eats<D: Diner>(diner: &D, p: usize) -> bool {
-    match diner.phase(p) {
-        Ok(phase) => phase == Phase::Eating,
-        Err(_) => false,
-    }
+    diner.phase(p) == Ok(Phase::Eating)
 }
 
-fn show_eating<D: Diner>(rt: &HostRuntime, diner: &D) -> io::Result<()> {
+fn show_eating<D: Diner>(rt: &impl Print, diner: &D) -> io::Result<()> {
     print!(rt; "  eating now:")?;
-    for p in 0..diner.drinkers() {
-        if eats(diner, p) {
-            print!(rt; " {p}")?;
-        }
+    for p in (0..diner.drinkers()).filter(|p| eats(diner, *p)) {
+        print!(rt; " {p}")?;
     }
     println!(rt; "")
 }
 
 fn first_eating<D: Diner>(diner: &D) -> Option<usize> {
-    for p in 0..diner.drinkers() {
-        if eats(diner, p) {
-            return Some(p);
-        }
-    }
-    None
+    (0..diner.drinkers()).find(|p| eats(diner, *p))
 }
 
-fn make_hungry<D: Diner>(rt: &HostRuntime, diner: &mut D, order: &[usize]) -> io::Result<()> {
+fn make_hungry<D: Diner>(rt: &impl Print, diner: &mut D, order: &[usize]) -> io::Result<()> {
     for p in order {
         let answer = diner.hungry(*p);
         show(rt, "hungry", *p, answer)?;
@@ -49,7 +36,7 @@ fn make_hungry<D: Diner>(rt: &HostRuntime, diner: &mut D, order: &[usize]) -> io
 
 // Makes the drinkers hungry in this order, and then lets the lowest that eats be done, until nobody eats.
 pub(crate) fn serve_all<D: Diner>(
-    rt: &HostRuntime,
+    rt: &impl Print,
     diner: &mut D,
     order: &[usize],
 ) -> io::Result<()> {
