@@ -1,6 +1,6 @@
 -- Sums, counts and tests over the numbers below a bound: how they compare, and what one number adds.
 use Rattle.std.proofs.Common.{◌≡◌, ℕ, zero, suc, ◌+◌, ◌<◌, ◌≤◌, Bool, true, false, cond, ◌||◌, eqb, refl, ⊎_elim, arith}
-use Rattle.std.proofs.lemmas.Bool.{or_left, or_right, or_cases, both_ways, cond-true, cases_eq}
+use Rattle.std.proofs.lemmas.Bool.{or_left, or_right, or_cases, cond-true, cases_eq}
 use Rattle.std.proofs.lemmas.Bool.Decides.{nat_tests}
 use Rattle.graph.specs.Counting.{total, number, any}
 
@@ -109,15 +109,15 @@ number_more t n j l f = omega (arith, number_lt t (λ i. eqb i j || t i) n j (λ
 
 pub any_from : (t : ℕ → Bool) (n j : ℕ) → j < n → t j ≡ true → any t n ≡ true
 unfolding any
-any_from t zero j l e = let no : ⊥ = omega arith in absurd no
+any_from t zero j l e = absurd (omega arith)
 any_from t (suc n) j l e =
     ⊎_elim (λ s. or_left (t n) _ (rw s at e)) (λ s. or_right (t n) _ (any_from t n j (omega arith) e)) (cases_eq j n)
 
 pub any_gives : (t : ℕ → Bool) (n : ℕ) → any t n ≡ true → (j : ℕ) × (j < n) × (t j ≡ true)
 unfolding any
-any_gives t zero e = absurd (both_ways false refl e)
+any_gives t zero e = cc
 any_gives t (suc n) e =
     ⊎_elim (λ s. (n, omega arith, s)) (λ s. let r = any_gives t n s in (r.0, omega arith, r.2)) (or_cases (t n) _ e)
 
 pub any_none : (t : ℕ → Bool) (n j : ℕ) → any t n ≡ false → j < n → t j ≡ true → ⊥
-any_none t n j e l s = both_ways (any t n) e (any_from t n j l s)
+any_none t n j e l s = cc (any_from t n j l s)

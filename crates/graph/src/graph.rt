@@ -11,7 +11,8 @@ pub mod joining;
 pub struct Graph {
     drinkers: usize,
     bottles: usize,
-    // Those of bottle b stand at place b; the places from `bottles` on are unused. An array with its count beside it, as a graph is copied, and no list that keeps its own length is.
+    // Those of bottle b stand at place b; the places from `bottles` on are unused.
+    // An array with its count beside it, as a graph is `Copy`; an `ArrayVec` is not.
     ends: [Ends; 32],
     ghost places: { length ends ≡ 32 },
     ghost some: { 1 ≤ drinkers },

@@ -36,19 +36,18 @@ impl Graph {
         if lower >= higher || higher >= self.drinkers || self.neighbours(lower, higher) {
             return Err(Refusal::BadEnds);
         }
-        self.append(lower, higher);
+        self.append(Ends { lower, higher });
         Ok(bottle)
     }
 
     // One bottle more, whose ends the rules allow.
-    fn append(&mut self, lower: usize, higher: usize)
+    fn append(&mut self, ends: Ends)
         requires room { self.old.bottles < 32 }
-        requires ordered { (lower < higher) × (higher < self.old.drinkers) }
-        requires fresh { neighbours (ends_of self.old) lower higher ≡ false }
-        ensures { Joined self.old lower higher self.new }
+        requires ordered { (ends.lower < ends.higher) × (ends.higher < self.old.drinkers) }
+        requires fresh { neighbours (ends_of self.old) ends.lower ends.higher ≡ false }
+        ensures { Joined self.old ends.lower ends.higher self.new }
     {
-        let bottle = self.bottles;
-        self.ends[bottle] = Ends { lower, higher };
-        self.bottles = bottle + 1;
+        self.ends[self.bottles] = ends;
+        self.bottles += 1;
     }
 }

@@ -20,6 +20,7 @@ fn relate(table: &mut Relation, ends: Ends)
 }
 
 // The table of the neighbours in a graph.
+// The fork diner has the same loop, but for what it writes, and says why.
 fn neighbour_table(graph: &Graph) -> Relation
     ensures { (p q : ℕ) → related result p q ≡ neighbours (ends_of graph.now) p q }
 {
