@@ -13,7 +13,7 @@ module _ (d e : Dining) (T : LawfulTurn d e) (q : ℕ) where
     omega (arith, T.goes_on.same_drinkers),
     ⊎_elim
         (λ s. s ∙ x)
-        (λ s. let z : ◌≡◌ {A = ℕ} 0 1 = (let h = s.0 in cc) in absurd (omega arith))
+        (λ s. cc s.0)
         (T.phases q l),
   )
 

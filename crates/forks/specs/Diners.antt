@@ -37,7 +37,7 @@ pub hungry_written : (s : Neighbourhood) (xs : List Phase) (r : Relation) (p : �
     → forks_of s (slice_set xs p Hungry) r ≡ after_hungry (forks_of s xs r) p
 hungry_written s xs r p l = ap (with_phases (forks_of s xs r)) (phase_written xs p Hungry l)
 
--- `done` writes the pairs of p one by one, and p's phase.
+-- `done` writes the pairs of p, and p's phase.
 module _ (d : ForkDiner) (p : ℕ) (l : p < d.neighbourhood.drinkers) (new : Relation)
     (Y : Yields d.neighbourhood d.precedes p d.neighbourhood.drinkers new) where
   all_yielded : (a b : ℕ) → related new a b ≡ behind (forks d) p a b

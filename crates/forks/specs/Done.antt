@@ -2,7 +2,7 @@
 use Rattle.std.specs.Prelude.{◌≡◌, ℕ, ◌-◌, ◌<◌, ◌≤◌, Bool, true, false, cond, ◌&&◌, ◌||◌, ◌==◌, ◌≢◌, nat_lt, refl}
 use Rattle.std.proofs.Common.{inl, inr, ⊎_elim, arith}
 use Rattle.std.proofs.Math.Logic.{∥∥₁_map}
-use Rattle.std.proofs.lemmas.Bool.{cases_Bool, cases_lt, and_from, and_right, false_from_ne_true}
+use Rattle.std.proofs.lemmas.Bool.{cases_lt, and_from, and_right, false_from_ne_true, true_from_ne_false}
 use Rattle.std.proofs.lemmas.Bool.Decides.{nat_tests}
 use Rattle.dining.specs.declared.phase.Phase.TheVariants.{Thinking, Hungry, Eating}
 use Rattle.dining.specs.Laws.{LawfulDone}
@@ -15,9 +15,6 @@ use Rattle.forks.specs.Upstream.{upstream}
 use Rattle.forks.specs.Waiting.{degree, eaters_behind, share, ahead, holder, dining}
 use Rattle.forks.specs.UpstreamLemmas.{upstream_self, upstream_step, upstream_fold, upstream_inside}
 use Rattle.forks.specs.WaitingLemmas.{Counted, holder_gives, holder_from, share_some, share_le}
-
-thinking_eats_not : is_eating Thinking ≡ false
-thinking_eats_not = refl
 
 module _ (f : Forks) (h : ℕ) where
   behind_out : (q : ℕ) → behind f h h q ≢ true
@@ -130,12 +127,12 @@ module _ (f : Forks) (F : Orderly f) (h : ℕ) (l : h < f.drinkers) where
 
   module _ (e : f.phase h ≡ Eating) where
     differ : (q : ℕ) → f.phase q ≡ Hungry → q ≢ h
-    differ q w s = let z : ◌≡◌ {A = ℕ} 0 1 = cc in omega arith
+    differ q w s = cc
 
     eaters_short : (q : ℕ) → f.phase q ≡ Hungry → f.precedes q h ≡ true → eaters_behind (after_done f h) q < eaters_behind f q
     unfolding eaters_behind
     eaters_short q w b = number_lt _ _ f.drinkers h (λ i _. eater_done q i (differ q w)) l
-        (and_right (behind f h q h) _ (rw phase_here thinking_eats_not)) (and_from (f.precedes q h) _ b (test_from_eating _ e))
+        (and_right (behind f h q h) _ (rw phase_here refl)) (and_from (f.precedes q h) _ b (test_from_eating _ e))
 
     share_short : (q : ℕ) → f.phase q ≡ Hungry → f.precedes q h ≡ true → share (after_done f h) q < share f q
     unfolding share degree
@@ -149,7 +146,7 @@ module _ (f : Forks) (F : Orderly f) (h : ℕ) (l : h < f.drinkers) where
 
     kept : (p : ℕ) → p < f.drinkers → (p ≢ h) → ahead f p ≤ ahead (after_done f h) p
         → (j : ℕ) → j < f.drinkers → upstream f p j ≡ true → upstream (after_done f h) p j ≡ true
-    kept p i d s j l u = ⊎_elim (λ v. v) (λ v. let no : ⊥ = omega (arith, ahead_gone p i d j l u v) in absurd no) (cases_Bool (upstream (after_done f h) p j))
+    kept p i d s j l u = true_from_ne_false _ (λ v. omega (arith, ahead_gone p i d j l u v))
 
     stays : (p : ℕ) → p < f.drinkers → f.phase p ≡ Hungry → ahead f p ≤ ahead (after_done f h) p
         → (g : ℕ) → holder f p g ≡ true → with_phase f.phase h Thinking g ≡ Eating → holder (after_done f h) p g ≡ true
@@ -162,7 +159,7 @@ module _ (f : Forks) (F : Orderly f) (h : ℕ) (l : h < f.drinkers) where
         d = differ p w
 
         other : g ≡ h → ⊥
-        other e = let k = phase_here f.phase h Thinking in let z : ◌≡◌ {A = ℕ} 0 1 = cc in omega arith
+        other e = cc (phase_here f.phase h Thinking)
 
         still : (q : ℕ) → f.phase q ≡ Hungry → with_phase f.phase h Thinking q ≡ Hungry
         still q w = rw (phase_elsewhere f.phase h Thinking q (differ q w)) w

@@ -85,7 +85,7 @@ module _ (f : Forks) (q : ℕ) (x : Phase) where
 -- A thinking drinker becomes hungry.
 module _ (f : Forks) (F : Orderly f) (q : ℕ) (e : f.phase q ≡ Thinking) where
   pub orderly_hungry : Orderly (after_hungry f q)
-  orderly_hungry = orderly_changed f q Hungry F (λ s. let z : ◌≡◌ {A = ℕ} 0 1 = cc in absurd (omega arith))
+  orderly_hungry = orderly_changed f q Hungry F (λ s. cc)
 
   own_share : share (after_hungry f q) q ≤ share f q
   unfolding share degree
@@ -94,14 +94,14 @@ module _ (f : Forks) (F : Orderly f) (q : ℕ) (e : f.phase q ≡ Thinking) wher
   no_share_rises : (r : ℕ) → share (after_hungry f q) r ≤ share f r
   no_share_rises r = ⊎_elim
       (λ s. rw s own_share)
-      (λ s. share_other f q Hungry r s (λ _ _ n. let z : ◌≡◌ {A = ℕ} 0 1 = cc in absurd (omega arith)))
+      (λ s. share_other f q Hungry r s (λ _ _ n. cc))
       (cases_eq r q)
 
   pub hungry_lawful : LawfulHungry (dining f) q (dining (after_hungry f q))
   hungry_lawful = record {
     phases = record { its_own = phase_here f.phase q Hungry; no_other = λ r _. phase_elsewhere f.phase q Hungry r };
     ahead_within_cap = ahead_most (after_hungry f q) orderly_hungry q;
-    goes_on = goes_on_changed f q Hungry no_share_rises (λ r g w _ _ s. let z : ◌≡◌ {A = ℕ} 0 1 = cc in omega arith);
+    goes_on = goes_on_changed f q Hungry no_share_rises (λ r g w _ _ s. cc);
   }
 
 -- A hungry drinker is fed: none of its neighbours eats, and no hungry one precedes it.

@@ -3,7 +3,7 @@ use Rattle.std.specs.Prelude.{◌≡◌, ℕ, zero, suc, ◌<◌, Bool, true, fa
 use Rattle.std.proofs.Common.{◌∙◌, inl, inr, ⊎_elim, arith}
 use Rattle.std.proofs.Math.Bool.{Bool-set}
 use Rattle.std.proofs.Math.Logic.{∥∥₁_elim}
-use Rattle.std.proofs.lemmas.Bool.{both_ways, cases_eq, and_parts, and_cases, or_cases, not-false}
+use Rattle.std.proofs.lemmas.Bool.{cases_eq, and_parts, and_cases, or_cases, not-false}
 use Rattle.dining.specs.declared.phase.Phase.{Phase}
 use Rattle.dining.specs.declared.phase.Phase.TheVariants.{Hungry, Eating}
 use Rattle.dining.specs.Dining.{Dining, IsIn, Holds, Lawful}
@@ -96,7 +96,7 @@ Blocked f q = (r : ℕ) × (((f.neighbours q r ≡ true) × (f.phase r ≡ Eatin
 blocked : (f : Forks) (q : ℕ) → f.phase q ≡ Hungry → may_eat f q ≡ false → Blocked f q
 blocked f q w t =
     let a : any (blocks f q) f.drinkers ≡ true = ⊎_elim
-    (λ s. absurd (both_ways _ s (test_from_hungry _ w)))
+    (λ s. cc (test_from_hungry _ w))
     (λ s. not-false _ s)
     (and_cases (is_hungry (f.phase q)) _ t) in
     let r = any_gives (blocks f q) f.drinkers a in (
@@ -130,7 +130,7 @@ visit_feeds f F q true t = feeds_one f F q t
 visit_feeds f F q false t = feeds_nobody (dining f)
 
 visit_blocked : (f : Forks) → Orderly f → (q : ℕ) (b : Bool) → may_eat f q ≡ b → feed_if b f.phase q q ≡ Hungry → Blocked (with_phases f (feed_if b f.phase q)) q
-visit_blocked f F q true t w = let e = phase_here f.phase q Eating in let z : ◌≡◌ {A = ℕ} 0 1 = cc in absurd (omega arith)
+visit_blocked f F q true t w = cc (phase_here f.phase q Eating)
 visit_blocked f F q false t w = blocked f q w t
 
 -- What stands after the visits of the first n.

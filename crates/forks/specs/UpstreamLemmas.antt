@@ -50,7 +50,7 @@ module _ (f : Forks) (F : Orderly f) (R : Ranked f.drinkers f.precedes) (p : ℕ
   soon_back q r b h = let rise = R.rises q r b in (omega (arith, h.0), go)
     where
       go : (k : ℕ) → R.rank p ≤ R.rank q + k → leads f.drinkers f.precedes k q p ≡ true
-      go zero e = let no : ⊥ = omega (arith, R.rises q r b, h.0) in absurd no
+      go zero e = absurd (omega (arith, R.rises q r b, h.0))
       go (suc k) e = leads_step f.drinkers f.precedes p k q r (F.known q r (F.only q r b)).1 b (h.1 k (omega (arith, R.rises q r b)))
 
   soon_from : (q : ℕ) → upstream f p q ≡ true → SoonLed q

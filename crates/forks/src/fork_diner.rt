@@ -19,7 +19,7 @@ mod yielding;
 pub struct ForkDiner {
     neighbourhood: Neighbourhood,
     // Drinker p's is at place p; the places beyond the drinkers are unused.
-    // No ArrayVec: it would need one more fact, that it is as long as there are drinkers, and a loop to fill it.
+    // A table with a place for each number below 16, as the one of precedence is, and no list that grows: an ArrayVec would be no plainer.
     phases: [Phase; 16],
     // p is related to q where they are neighbours and p precedes q.
     precedes: Relation,

@@ -1,7 +1,7 @@
 -- Lists of entries: what an entry says of its drinker's phase, and that there are never more entries than drinkers.
 use Rattle.std.specs.Prelude.{◌≡◌, ℕ, ◌<◌, ◌≤◌, Bool, true, false, cond, not, ◌&&◌, ◌||◌, List, [], ◌∷◌, length, ◌==◌, ◌≢◌, nat_eq, nat_lt, refl}
 use Rattle.std.proofs.Common.{⊎_elim, arith}
-use Rattle.std.proofs.lemmas.Bool.{both_ways, and_parts, cases_Bool, or_parts, ltb-true, not-true}
+use Rattle.std.proofs.lemmas.Bool.{and_parts, cases_Bool, or_parts, ltb-true, not-true, true_from_ne_false}
 use Rattle.std.proofs.lemmas.Bool.Decides.{nat_tests}
 use Rattle.dining.specs.declared.phase.Phase.TheVariants.{Thinking, Hungry, Eating}
 use Rattle.graph.specs.Counting.{number}
@@ -43,14 +43,14 @@ no_entry_where_thinking (e ∷ es) p h = ⊎_elim
     (cases_Bool (e.drinker == p))
   where
     busy : (b : Bool) → cond b Eating Hungry ≢ Thinking
-    busy true x = let z : ◌≡◌ {A = ℕ} 0 1 = cc in omega arith
-    busy false x = let z : ◌≡◌ {A = ℕ} 0 1 = cc in omega arith
+    busy true x = cc
+    busy false x = cc
 
 pub entry_where_not_thinking : (es : List Entry) (p : ℕ) → (phase_in es p ≢ Thinking) → has_entry es p ≡ true
-entry_where_not_thinking es p h = ⊎_elim (λ t. t) (λ t. absurd (h (thinks_without_entry es p t))) (cases_Bool (has_entry es p))
+entry_where_not_thinking es p h = true_from_ne_false _ (λ t. h (thinks_without_entry es p t))
 
 pub known_entry : (near : ℕ → ℕ → Bool) (n : ℕ) (es : List Entry) → orderly near n es ≡ true → (p : ℕ) → has_entry es p ≡ true → p < n
-known_entry near n [] o p h = absurd (both_ways false refl h)
+known_entry near n [] o p h = cc
 known_entry near n (e ∷ es) o p h =
     let P = parts near n e es o in
     let rest = known_entry near n es P.rest p in

@@ -5,7 +5,7 @@ use Rattle.std.proofs.Common.{◌∙◌, arith}
 use Rattle.std.proofs.Math.Bool.{or-false}
 use Rattle.std.proofs.lemmas.List.Folds.{list_any-append}
 use Rattle.std.proofs.Math.Logic.{inr, ⊎_elim}
-use Rattle.std.proofs.lemmas.Bool.{and_right, both_ways, cases_Bool, or_parts, eq-eqb, ne_eqb}
+use Rattle.std.proofs.lemmas.Bool.{and_right, cases_Bool, or_parts, eq-eqb, ne_eqb}
 use Rattle.std.proofs.lemmas.Bool.Decides.{nat_tests}
 use Rattle.dining.specs.declared.phase.Phase.TheVariants.{Thinking, Hungry, Eating}
 use Rattle.dining.specs.Laws.{LawfulHungry}
@@ -36,7 +36,7 @@ module _ (p : ℕ) where
   -- Whoever is in the queue keeps its ahead and its holders.
   ahead_of_old : (es : List Entry) (q : ℕ) → has_entry es q ≡ true → ahead_in (joined es) q ≡ ahead_in es q
   unfolding joined
-  ahead_of_old [] q h = absurd (both_ways false refl h)
+  ahead_of_old [] q h = cc
   ahead_of_old (e ∷ es) q h = ⊎_elim
       (λ (t : nat_eq e.drinker q ≡ true). rw t)
       (λ (t : nat_eq e.drinker q ≡ false). let rest = ahead_of_old es q (rw t at h) in rw t (omega arith))
@@ -44,7 +44,7 @@ module _ (p : ℕ) where
 
   holder_of_old : (es : List Entry) (q h : ℕ) → has_entry es q ≡ true → holder_in (joined es) q h ≡ holder_in es q h
   unfolding joined
-  holder_of_old [] q h k = absurd (both_ways false refl k)
+  holder_of_old [] q h k = cc
   holder_of_old (e ∷ es) q h k = ⊎_elim
       (λ (t : nat_eq e.drinker q ≡ true). rw t)
       (λ (t : nat_eq e.drinker q ≡ false). let rest = holder_of_old es q h (rw t at k) in rw (t, rest))
@@ -79,7 +79,7 @@ module _ (q : Queue) (o : orderly q.neighbours q.drinkers q.entries ≡ true) (p
   absent = no_entry_where_thinking q.entries p t
 
   in_queue : (r : ℕ) → phase_in q.entries r ≡ Hungry → has_entry q.entries r ≡ true
-  in_queue r h = entry_where_not_thinking q.entries r (λ x. let z : ◌≡◌ {A = ℕ} 0 1 = cc in omega arith)
+  in_queue r h = entry_where_not_thinking q.entries r (λ x. cc)
 
   pub hungry_lawful : LawfulHungry (dining q) p (dining (after_hungry q p))
   unfolding joined

@@ -2,7 +2,7 @@
 use Rattle.std.specs.Prelude.{◌≡◌, ℕ, ◌+◌, ◌<◌, ◌≤◌, Bool, true, false, cond, ◌&&◌, List, [], ◌∷◌, ◌==◌, ◌≢◌, nat_eq, refl}
 use Rattle.std.specs.List.{list_any}
 use Rattle.std.proofs.Common.{sym, ap, ◌∙◌, inr, ⊎_elim, arith}
-use Rattle.std.proofs.lemmas.Bool.{both_ways, cases_Bool, or_cases, or_parts, or_left, or_right, or_from, eqb-true, ne_eqb}
+use Rattle.std.proofs.lemmas.Bool.{cases_Bool, or_cases, or_parts, or_left, or_right, or_from, eqb-true, ne_eqb}
 use Rattle.dining.specs.declared.phase.Phase.TheVariants.{Thinking, Hungry, Eating}
 use Rattle.dining.specs.Laws.{LawfulDone}
 use Rattle.queueing.specs.declared.entry.Entry.{Entry}
@@ -41,13 +41,13 @@ module _ (p : ℕ) where
       go false x y h = omega arith
 
   ahead_behind : (es : List Entry) (q : ℕ) → (q ≢ p) → holder_in es q p ≡ true → ahead_in (without es p) q < ahead_in es q
-  ahead_behind [] q d h = absurd (both_ways false refl h)
+  ahead_behind [] q d h = cc
   ahead_behind (e ∷ es) q d h = ⊎_elim
       (λ (t : nat_eq e.drinker p ≡ true).
       let other : nat_eq e.drinker q ≡ false = ne_eqb e.drinker q (λ x. d (sym x ∙ eqb-true e.drinker p t)) in
       let rest = ahead_of_left es q d in rw (t, other) (omega arith))
       (λ (t : nat_eq e.drinker p ≡ false). ⊎_elim
-      (λ (u : nat_eq e.drinker q ≡ true). absurd (both_ways false refl (rw u at h)))
+      (λ (u : nat_eq e.drinker q ≡ true). cc (rw u at h))
       (λ (u : nat_eq e.drinker q ≡ false).
       let k : holder_in es q p ≡ true = rw (u, t) at h in
       let rest = ahead_behind es q d k in rw (t, u) (omega arith))
@@ -62,7 +62,7 @@ module _ (p : ℕ) where
       let not_h : nat_eq e.drinker h ≡ false = ne_eqb e.drinker h (λ x. c (sym x ∙ eqb-true e.drinker p t)) in
       rw t (holder_of_left es q h d c (rw (other, not_h) at k)))
       (λ (t : nat_eq e.drinker p ≡ false). ⊎_elim
-      (λ (u : nat_eq e.drinker q ≡ true). absurd (both_ways false refl (rw u at k)))
+      (λ (u : nat_eq e.drinker q ≡ true). cc (rw u at k))
       (λ (u : nat_eq e.drinker q ≡ false). rw (t, u) (⊎_elim
       (or_left (e.drinker == h && e.eating) _)
       (λ r. or_right (e.drinker == h && e.eating) _ (holder_of_left es q h d c r))
@@ -96,10 +96,10 @@ module _ (p : ℕ) where
 
 module _ (q : Queue) (p : ℕ) (t : phase_in q.entries p ≡ Eating) where
   differ : (r : ℕ) → phase_in q.entries r ≡ Hungry → r ≢ p
-  differ r h e = let z : ◌≡◌ {A = ℕ} 0 1 = cc in omega arith
+  differ r h e = cc
 
   still_eats : (h : ℕ) → phase_in (without q.entries p) h ≡ Eating → h ≢ p
-  still_eats h a e = let gone = phase_of_gone p q.entries in let z : ◌≡◌ {A = ℕ} 0 1 = cc in omega arith
+  still_eats h a e = cc (phase_of_gone p q.entries)
 
   pub done_lawful : LawfulDone (dining q) p (dining (after_done q p))
   done_lawful = record {

@@ -4,7 +4,7 @@ use Rattle.std.proofs.Math.Path.{refl}
 use Rattle.std.proofs.Common.{ap, ◌∙◌, inl, inr, ⊎_elim, arith}
 use Rattle.std.proofs.Math.Bool.{or-false}
 use Rattle.std.proofs.lemmas.List.Folds.{list_any-append}
-use Rattle.std.proofs.lemmas.Bool.{both_ways, cases_Bool, or_cases, or_parts, or_left, or_right, or_from, and_parts, and_from, eq-eqb}
+use Rattle.std.proofs.lemmas.Bool.{cases_Bool, or_cases, or_parts, or_left, or_right, or_from, and_parts, and_from, eq-eqb}
 use Rattle.std.proofs.lemmas.Bool.Decides.{nat_tests}
 use Rattle.dining.specs.declared.phase.Phase.TheVariants.{Hungry, Eating}
 use Rattle.dining.specs.Laws.{LawfulTurn}
@@ -40,7 +40,7 @@ module _ (near : ℕ → ℕ → Bool) where
   holder_fed : (earlier es : List Entry) (q h : ℕ) → holder_in es q h ≡ true → holder_in (fed near earlier es) q h ≡ true
   holder_fed earlier [] q h k = k
   holder_fed earlier (e ∷ es) q h k = ⊎_elim
-      (λ (u : nat_eq e.drinker q ≡ true). absurd (both_ways false refl (rw u at k)))
+      (λ (u : nat_eq e.drinker q ≡ true). cc (rw u at k))
       (λ (u : nat_eq e.drinker q ≡ false). rw u (⊎_elim
       (λ a. let b = and_parts (e.drinker == h) _ a in
       or_left (e.drinker == h && (e.eating || not (has_neighbour near earlier e.drinker))) _
@@ -52,7 +52,7 @@ module _ (near : ℕ → ℕ → Bool) where
 
   -- The first in the queue eats, so whoever is still hungry has a holder.
   first_holds : (es : List Entry) (q : ℕ) → phase_in (fed near [] es) q ≡ Hungry → (h : ℕ) × (holder_in (fed near [] es) q h ≡ true)
-  first_holds [] q w = let z : ◌≡◌ {A = ℕ} 0 1 = cc in absurd (omega arith)
+  first_holds [] q w = cc
   first_holds (e ∷ es) q w = ⊎_elim
       (λ (u : nat_eq e.drinker q ≡ true). absurd (eats e.eating (rw u at w)))
       (λ (u : nat_eq e.drinker q ≡ false). (
@@ -63,8 +63,8 @@ module _ (near : ℕ → ℕ → Bool) where
       (cases_Bool (e.drinker == q))
     where
       eats : (b : Bool) → cond (b || true) Eating Hungry ≢ Hungry
-      eats true x = let z : ◌≡◌ {A = ℕ} 0 1 = cc in omega arith
-      eats false x = let z : ◌≡◌ {A = ℕ} 0 1 = cc in omega arith
+      eats true x = cc
+      eats false x = cc
 
   -- Whose neighbours are all blocked by an earlier entry has no neighbour that is fed later.
   neighbour_push : (earlier : List Entry) (e : Entry) (q : ℕ) → has_neighbour near (earlier ++ e ∷ []) q ≡ (has_neighbour near earlier q || near e.drinker q)

@@ -1,4 +1,5 @@
 // The fork diner behind the interface.
+// The calls read like the queue diner's. For the trait to provide them, what changes the tables would have to be methods of the trait too, open to every caller and asking something of it.
 ghost use Rattle.forks.specs.ForkDiners.{meaning, HungerOf, LeaveOf, TurnOf, forks};
 ghost use Rattle.std.proofs.Common.{sym, subst};
 ghost use Rattle.dining.specs.Laws.{LawfulHungry, LawfulDone, LawfulTurn};

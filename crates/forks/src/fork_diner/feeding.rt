@@ -7,6 +7,7 @@ ghost use Rattle.forks.specs.Tables.{after_visit};
 use crate::fork_diner::ForkDiner;
 use dining::Phase;
 
+// A drinker's number is bounded by the diner's own count; a type that says so would have to name the diner, and be no plainer than these clauses.
 impl ForkDiner {
     // Does q keep p from eating? It does if it is a neighbour that eats, or a hungry one that precedes p.
     fn is_blocked_by(&self, p: usize, q: usize) -> bool

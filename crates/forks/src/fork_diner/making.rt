@@ -20,7 +20,8 @@ fn let_lower_precede(precedes: &mut Relation, ends: Ends)
 }
 
 // Of each two neighbours the lower number precedes.
-// A loop like that over a graph's table of neighbours: to share it, it would have to take what it writes as a closure and state what is known of that, which is no plainer.
+// The loop of a graph's table of neighbours, but for what it writes. One for both would be a public function that takes a closure, and
+// would have to require that the closure may be called; no public function here requires anything.
 fn lower_precedes(graph: &Graph) -> Relation
     ensures { (p q : ℕ) → related result p q ≡ (neighbours (ends_of graph.now) p q && nat_lt p q) }
 {
