@@ -11,7 +11,7 @@ pub mod calls;
 pub mod making;
 mod visiting;
 
-// How many channels there are.
+// How many channels this post has; each post has its own count.
 const CHANNELS: usize = 64;
 
 #[derive(Drop)]

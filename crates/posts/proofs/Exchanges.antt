@@ -1,6 +1,7 @@
 -- Lists of calls on any post: order and time, from the laws of its meaning alone.
 use Rattle.std.proofs.Common.{◌≡◌, ℕ, ◌-◌, ◌<◌, ◌≤◌, Bool, true, false, cond, eqb, ◌≢◌, List, [], ◌∷◌, ◌++◌, Some, None, Ok, Err, Option, sym, refl, ap, ◌∙◌, subst, append_assoc, append-nil, arith, eqb-true}
 use borrow.Author.Tests.{eqb-false}
+use mathlib.Core.List.{append-eq-nil_iff}
 use Rattle.posts.specs.Exchange.{Step, Happened, put_by, put_into, taken_by, taken_from, ticks_by, ticks_in, InOrder, InTime, NeverLate}
 use Rattle.posts.specs.Laws.{PostLaws, ChannelKept, SamePost, LawfulPut, LawfulTake, LawfulTick}
 use Rattle.posts.specs.Posting.{Posting, Busy}
@@ -45,20 +46,12 @@ tick_moves c a b h law = record {
 regroup : (before put taken between puts takens after : List Message) → before ++ put ≡ taken ++ between → between ++ puts ≡ takens ++ after → before ++ (put ++ puts) ≡ (taken ++ takens) ++ after
 regroup before put taken between puts takens after first later = cc (append_assoc before put puts, append_assoc taken between puts, append_assoc taken takens after)
 
-nothing_before : (xs ys : List Message) → xs ++ ys ≡ [] → xs ≡ []
-nothing_before [] ys e = refl
-nothing_before (x ∷ xs) ys e = cc
-
-nothing_behind : (xs ys : List Message) → xs ++ ys ≡ [] → ys ≡ []
-nothing_behind [] ys e = e
-nothing_behind (x ∷ xs) ys e = cc
-
 still_waiting : (before put taken after : List Message) → before ≢ [] → taken ≡ [] → before ++ put ≡ taken ++ after → after ≢ []
-still_waiting before put taken after some none e gone = some (nothing_before before put (e ∙ ap (λ xs. xs ++ after) none ∙ gone))
+still_waiting before put taken after some none e gone = some ((append-eq-nil_iff {p = before} {q = put}).0 (e ∙ ap (λ xs. xs ++ after) none ∙ gone)).0
 
 empty_unless : (xs : List Message) → (xs ≢ [] → ⊥) → xs ≡ []
 empty_unless [] no_other = refl
-empty_unless (x ∷ xs) no_other = absurd (no_other (λ e. let z : ◌≡◌ {A = ℕ} 0 1 = cc in omega arith))
+empty_unless (x ∷ xs) no_other = absurd (no_other (λ e. cc))
 
 module _ {S : Type 0} {means : S → Posting} {puts : S → ℕ → Message → S → Type 0} {takes : S → ℕ → Option Message → S → Type 0} {ticks : S → S → Type 0} (laws : PostLaws means puts takes ticks) where
   abbrev Does : PostEvent → S → S → Type 0
@@ -110,10 +103,10 @@ module _ {S : Type 0} {means : S → Posting} {puts : S → ℕ → Message → 
       (subst (λ x. Busy (means x) c) (sym done) busy, omega (arith, ap (λ x. (means x).due c) done))
   due_falls (e ∷ es) s t c (u, did, rest) busy none =
       let first = moves e c s u busy.0 did in
-      let untouched = nothing_before (taken_by c e) (taken_from c es) none in
+      let (untouched, later_too) = (append-eq-nil_iff {p = taken_by c e} {q = taken_from c es}).0 none in
       let still = still_waiting ((means s).waiting c) (put_by c e) (taken_by c e) ((means u).waiting c) busy.1 untouched first.in_order in
       let next : c < (means u).channels = omega (arith, busy.0, (keeps_the_post e s u did).same_channels) in
-      let later = due_falls es u t c rest (next, still) (nothing_behind (taken_by c e) (taken_from c es) none) in
+      let later = due_falls es u t c rest (next, still) later_too in
       (later.0, omega (arith, later.1, first.due_falls busy untouched))
 
   pub in_time : (es : List PostEvent) (s t : S) → Do es s t → InTime (means s) es (means t)

@@ -9,7 +9,7 @@ pub enum PostCall {
     Tick,
 }
 
-// A call with what it answered. The calls stand here again, so that none has the answer of another.
+// A call with what it answered. The calls stand here once more, and not as a `PostCall` beside an answer, so that no call has the answer of another.
 #[derive(Clone, Copy)]
 pub enum PostEvent {
     Put(usize, Message, Result<(), Refusal>),

@@ -6,7 +6,7 @@ use crate::event::{PostCall, PostEvent};
 use crate::post::Post;
 use std::alloc::{AllocError, Global};
 
-// One call, with what it answered.
+// One call, with what it answered. A match and no closure: the calls are values, of which the contract speaks.
 fn try_call<P: Post>(post: &mut P, call: PostCall) -> PostEvent
     ensures made { call_of result ≡ call }
     ensures did { Step P.Post.means P.Post.puts P.Post.takes P.Post.ticks result post.old post.new }

@@ -10,7 +10,7 @@ use wires::Message;
 pub mod calls;
 pub mod making;
 
-// How many channels there are.
+// How many channels this post has; each post has its own count.
 const CHANNELS: usize = 64;
 
 #[derive(Drop)]

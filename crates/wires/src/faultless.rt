@@ -21,7 +21,7 @@ impl Wire for FaultlessWire {
         0
     }
 
-    // The frame comes out, whichever the line.
+    // The frame comes out, on every line that there is.
     fn carry(&mut self, line: usize, frame: Frame) -> Result<Option<Frame>, Refusal> {
         if line >= LINES {
             return Err(Refusal::NothingSuchToCarry);

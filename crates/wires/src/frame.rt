@@ -36,14 +36,14 @@ impl TryFrom<(usize, usize)> for Frame {
 
     ghost try_from_gives = { λ numbers frame. FrameRead numbers.0 numbers.1 frame };
 
-    // The frame that has these numbers: that of its bit, and that of its payload.
-    fn try_from((bit, payload): (usize, usize)) -> Result<Frame, Refusal> {
+    // The frame of a bit and a message, where 0 is no message but an acknowledgement.
+    fn try_from((bit, message): (usize, usize)) -> Result<Frame, Refusal> {
         if bit > 1 {
             return Err(Refusal::NothingSuchToCarry);
         }
-        let payload = match payload {
+        let payload = match message {
             0 => Payload::Acknowledgement,
-            number => Payload::Data(Message::try_from(number)?),
+            _ => Payload::Data(Message::try_from(message)?),
         };
         Ok(Frame {
             bit: bit == 1,

@@ -16,7 +16,7 @@ pub trait Wire {
     // Exactly what this wire does with a frame on a line: the wire before, the line, the frame, what comes out (none where it is lost), and the wire after.
     ghost carries: { Self → ℕ → Frame → Option Frame → Self → Type 0 };
 
-    // How many frames in a row this wire loses at the most.
+    // How many frames in a row this wire may lose on a line.
     fn bound(&self) -> usize
         ensures { result ≡ (means self.now).bound };
 

@@ -1,5 +1,5 @@
 // A visit of one channel: a message is sent, and acknowledged where it comes through.
-ghost use Rattle.std.specs.Prelude.{◌+◌, ◌*◌, ◌<◌};
+ghost use Rattle.std.specs.Prelude.{◌≡◌, ◌+◌, ◌*◌, ◌<◌};
 ghost use Rattle.alternating_bit.specs.Channels.{after_frame};
 ghost use Rattle.alternating.specs.Visits.{Carried, Acknowledging, Visit, Visited};
 ghost use Rattle.alternating.specs.declared.alternating_post.TheConstants.{CHANNELS};
@@ -8,16 +8,15 @@ use crate::alternating_post::AlternatingPost;
 use alternating_bit::Channel;
 use wires::{Frame, Payload, Wire};
 
-// Carries a frame on a line that there is: does it come through?
+// Carries a frame on a line that there is, so that it is never refused: does it come through?
 fn comes_through<W: Wire>(wire: &mut W, line: usize, frame: Frame) -> bool
     requires { line < 128 }
     ensures { Carried W.Wire.carries line wire.old frame result wire.new }
 {
-    // There is such a line, so this is never an error.
-    matches!(wire.carry(line, frame), Ok(Some(_)))
+    wire.carry(line, frame).unwrap().is_some()
 }
 
-// The two lines of one channel.
+// The two lines of one channel: its messages go out on the one, and their acknowledgements come back on the other.
 #[derive(Clone, Copy)]
 pub(super) struct Lines {
     pub(super) channel: usize,
@@ -25,18 +24,16 @@ pub(super) struct Lines {
 }
 
 impl Lines {
-    // A message goes out: does it come through?
-    fn carry_out<W: Wire>(self, wire: &mut W, frame: Frame) -> bool
-        ensures { Carried W.Wire.carries (2 * self.channel) wire.old frame result wire.new }
+    fn out(self) -> usize
+        ensures { result ≡ 2 * self.channel }
     {
-        comes_through(wire, 2 * self.channel, frame)
+        2 * self.channel
     }
 
-    // An acknowledgement goes back: does it come through?
-    fn carry_back<W: Wire>(self, wire: &mut W, frame: Frame) -> bool
-        ensures { Carried W.Wire.carries (2 * self.channel + 1) wire.old frame result wire.new }
+    fn back(self) -> usize
+        ensures { result ≡ 2 * self.channel + 1 }
     {
-        comes_through(wire, 2 * self.channel + 1, frame)
+        self.out() + 1
     }
 
     // A frame has come through: its bit goes back, whether its message is new or not.
@@ -48,7 +45,7 @@ impl Lines {
             bit: frame.bit,
             payload: Payload::Acknowledgement,
         };
-        if self.carry_back(wire, back) {
+        if comes_through(wire, self.back(), back) {
             came.acknowledged()
         } else {
             came
@@ -62,7 +59,7 @@ impl Lines {
         let Some(frame) = channel.frame() else {
             return channel;
         };
-        if self.carry_out(wire, frame) {
+        if comes_through(wire, self.out(), frame) {
             self.acknowledge(wire, channel, frame)
         } else {
             channel

@@ -9,7 +9,7 @@ use crate::queue_post::{CHANNELS, QueuePost};
 use refusals::Refusal;
 use wires::Message;
 
-// Refuses the number of a channel that there is not. (A `get_mut` of the array would do it too, but says nothing of what the array ends as.)
+// Refuses a channel that there is not. The array is indexed after this: with `get_mut` in its place it stayed open what the array ends as.
 fn check_channel(channel: usize) -> Result<(), Refusal>
     ensures { MatchResult result (λ _. channel < CHANNELS) (NoSuchChannel CHANNELS channel) }
 {

@@ -2,8 +2,8 @@ use Rattle.std.proofs.Common.{refl, rules}
 use Rattle.alternating.specs.Visits.{message_lost, message_through}
 use Rattle.alternating.proofs.alternating_post.visiting.Lines.visit.Goals as goal
 
-pub returns-then-carry_out : goal.returns-then-carry_out
-returns-then-carry_out g c = message_through (search rules) c.if-carry_out.ensures c.acknowledge.ensures
+pub returns-then-comes_through : goal.returns-then-comes_through
+returns-then-comes_through g c = message_through (search rules) (rw c.out.ensures at c.if-comes_through.ensures) c.acknowledge.ensures
 
-pub returns-else-carry_out : goal.returns-else-carry_out
-returns-else-carry_out g c = message_lost (search rules) c.if-carry_out.ensures refl
+pub returns-else-comes_through : goal.returns-else-comes_through
+returns-else-comes_through g c = message_lost (search rules) (rw c.out.ensures at c.if-comes_through.ensures) refl
