@@ -43,29 +43,31 @@ fn try_all(
     post: &mut AlternatingPost<PatternWire>,
     calls: &[PostCall],
 ) -> io::Result<()> {
-    for event in &exchange(alloc, post, calls)? {
-        show(rt, *event)?;
+    for event in exchange(alloc, post, calls)? {
+        show(rt, event)?;
     }
     Ok(())
 }
 
 // What the next tick sends on channel 0, and what the wire will do with it.
-fn show_next(rt: &impl Print, post: &AlternatingPost<PatternWire>) -> io::Result<()> {
-    let Ok(Some(frame)) = post.next_frame(0) else {
-        return println!(rt; "nothing is sent");
+fn show_next(rt: &impl Print, post: &AlternatingPost<PatternWire>) -> anyhow::Result<()> {
+    let Some(frame) = post.next_frame(0)? else {
+        println!(rt; "nothing is sent")?;
+        return Ok(());
     };
-    print!(rt; "{frame}")?;
-    if post.wire().loses_next(0).unwrap_or(false) {
-        return println!(rt; ": lost");
-    }
-    if post.wire().loses_next(1).unwrap_or(false) {
-        return println!(rt; ": comes through, and its acknowledgement is lost");
-    }
-    println!(rt; ": comes through, and so does its acknowledgement")
+    let outcome = if post.wire().loses_next(0)? {
+        "lost"
+    } else if post.wire().loses_next(1)? {
+        "comes through, and its acknowledgement is lost"
+    } else {
+        "comes through, and so does its acknowledgement"
+    };
+    println!(rt; "{frame}: {outcome}")?;
+    Ok(())
 }
 
 // Two messages go through channel 0 within as many ticks as the lag; there is no room for a third, and no channel 64.
-pub(crate) fn send_two(rt: &impl Print, alloc: Global) -> io::Result<()> {
+pub(crate) fn send_two(rt: &impl Print, alloc: Global) -> anyhow::Result<()> {
     let mut post = AlternatingPost::new(PatternWire::new(b"110"));
     println!(rt; "  lag {}", post.lag())?;
     let calls = [

@@ -38,13 +38,13 @@ fn join(rt: &impl Print, table: &mut Table, lower: usize, higher: usize) -> io::
 }
 
 // Both diners are asked for the same change.
-fn change(rt: &impl Print, table: &mut Table, change: Change) -> io::Result<()> {
+fn ask_both(rt: &impl Print, table: &mut Table, change: Change) -> io::Result<()> {
     let forks = code(change.ask(&mut table.forks));
     let queue = code(change.ask(&mut table.queue));
     print!(rt; "{forks} {queue}")?;
     print_phases(rt, &table.forks)?;
     print_phases(rt, &table.queue)?;
-    println!(rt; "")
+    println!(rt)
 }
 
 pub(crate) fn run_line(rt: &impl Print, table: &mut Table, line: &str) -> io::Result<()> {
@@ -55,9 +55,9 @@ pub(crate) fn run_line(rt: &impl Print, table: &mut Table, line: &str) -> io::Re
     match call {
         Some("graph") => make(rt, table, first),
         Some("join") => join(rt, table, first, second),
-        Some("hungry") => change(rt, table, Change::Hungry(first)),
-        Some("done") => change(rt, table, Change::Done(first)),
-        Some("turn") => change(rt, table, Change::Turn),
+        Some("hungry") => ask_both(rt, table, Change::Hungry(first)),
+        Some("done") => ask_both(rt, table, Change::Done(first)),
+        Some("turn") => ask_both(rt, table, Change::Turn),
         _ => println!(rt; "no such call"),
     }
 }

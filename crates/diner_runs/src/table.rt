@@ -14,24 +14,26 @@ pub struct Table {
 
 impl Table {
     pub(crate) fn new(drinkers: usize) -> Result<Table, Refusal> {
-        let graph = Graph::new(drinkers)?;
-        Ok(Table {
+        Ok(Table::of(Graph::new(drinkers)?))
+    }
+
+    fn of(graph: Graph) -> Table {
+        Table {
             graph,
             forks: ForkDiner::new(&graph),
             queue: QueueDiner::new(&graph),
-        })
+        }
     }
 
     // One bottle more; both diners are made anew.
     pub(crate) fn join(&mut self, lower: usize, higher: usize) -> Result<usize, Refusal> {
         let bottle = self.graph.join(lower, higher)?;
-        self.forks = ForkDiner::new(&self.graph);
-        self.queue = QueueDiner::new(&self.graph);
+        *self = Table::of(self.graph);
         Ok(bottle)
     }
 }
 
-// A change that a diner can be asked for.
+// A change that a diner can be asked for. A value and no closure: one closure can't be asked of two types of diners.
 #[derive(Clone, Copy)]
 pub(crate) enum Change {
     Hungry(usize),
@@ -50,7 +52,7 @@ impl Change {
     }
 }
 
-// The letter that is printed for a phase.
+// The letter that is printed for a phase. No `Display` of a phase: the letters are this program's own.
 pub(crate) fn letter(phase: Result<Phase, Refusal>) -> char {
     match phase {
         Ok(Phase::Thinking) => 't',

@@ -1,5 +1,5 @@
 // One line of input: which call it is, and what comes of it.
-use crate::setup::{Question, Setup, code};
+use crate::setup::{Call, Setup, code};
 use posts::Post;
 use std::io;
 use wires::check_pattern;
@@ -46,11 +46,11 @@ fn tick(rt: &impl Print, setup: &mut Setup) -> io::Result<()> {
     println!(rt; "tick")
 }
 
-// The three posts are asked the same.
-fn ask(rt: &impl Print, setup: &mut Setup, question: Question) -> io::Result<()> {
-    let queue = code(question.ask(&mut setup.queue));
-    let faultless = code(question.ask(&mut setup.faultless));
-    let losing = code(question.ask(&mut setup.losing));
+// The same call of the three posts.
+fn ask(rt: &impl Print, setup: &mut Setup, call: Call) -> io::Result<()> {
+    let queue = code(call.ask(&mut setup.queue));
+    let faultless = code(call.ask(&mut setup.faultless));
+    let losing = code(call.ask(&mut setup.losing));
     println!(rt; "{queue} {faultless} {losing}")
 }
 
@@ -64,9 +64,9 @@ pub(crate) fn run_line(rt: &impl Print, setup: &mut Setup, line: &str) -> io::Re
     match call {
         Some("pattern") => make(rt, setup, word.unwrap_or("").as_bytes()),
         Some("carry") => carry(rt, setup, first, second, third),
-        Some("put") => ask(rt, setup, Question::Put(first, second)),
-        Some("take") => ask(rt, setup, Question::Take(first)),
-        Some("waiting") => ask(rt, setup, Question::Waiting(first)),
+        Some("put") => ask(rt, setup, Call::Put(first, second)),
+        Some("take") => ask(rt, setup, Call::Take(first)),
+        Some("waiting") => ask(rt, setup, Call::Waiting(first)),
         Some("tick") => tick(rt, setup),
         _ => println!(rt; "no such call"),
     }

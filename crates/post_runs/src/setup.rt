@@ -35,29 +35,29 @@ impl Setup {
     }
 }
 
-// What a post can be asked, with the numbers of the line.
+// A call of a post, with the numbers of the line. A value and no closure: one closure can't be asked of two types of posts.
 #[derive(Clone, Copy)]
-pub(crate) enum Question {
+pub(crate) enum Call {
     Put(usize, usize),
     Take(usize),
     Waiting(usize),
 }
 
-impl Question {
+impl Call {
     // The number that the post answers: of a message that is taken its number, 0 for "not yet" and for a put that is granted.
     pub(crate) fn ask<P: Post>(self, post: &mut P) -> Result<usize, Refusal> {
         match self {
-            Question::Put(channel, message) => {
+            Call::Put(channel, message) => {
                 post.put(channel, Message::try_from(message)?)?;
                 Ok(0)
             }
-            Question::Take(channel) => Ok(post.take(channel)?.map_or(0, usize::from)),
-            Question::Waiting(channel) => post.waiting(channel),
+            Call::Take(channel) => Ok(post.take(channel)?.map_or(0, usize::from)),
+            Call::Waiting(channel) => post.waiting(channel),
         }
     }
 }
 
 // The number that is printed: what is answered, or the number of the refusal.
 pub(crate) fn code(answer: Result<usize, Refusal>) -> usize {
-    answer.unwrap_or_else(|refusal| usize::from(u8::from(refusal)))
+    answer.unwrap_or_else(|refusal| u8::from(refusal).into())
 }

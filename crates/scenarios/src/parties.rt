@@ -1,5 +1,5 @@
 // The graphs of the tests, and what the tests do to any diner.
-use dining::{Diner, Phase};
+use dining::{Diner, Phase, pass_on};
 use graph::Graph;
 use refusals::Refusal;
 use sets::Set;
@@ -42,7 +42,6 @@ pub(crate) fn all_hungry<D: Diner>(diner: &mut D, order: &[usize]) -> Result<(),
 
 // The drinker is done, and a turn follows; answers who eats then.
 pub(crate) fn after<D: Diner>(diner: &mut D, p: usize) -> Result<u32, Refusal> {
-    diner.done(p)?;
-    diner.turn();
+    pass_on(diner, p)?;
     Ok(eating(diner))
 }

@@ -23,7 +23,7 @@ fn show_shared(rt: &impl Print, p: usize, shared: Set) -> io::Result<()> {
     for bottle in (0..32usize).filter(|bottle| shared.contains(*bottle)) {
         print!(rt; " {bottle}")?;
     }
-    println!(rt; "")
+    println!(rt)
 }
 
 // Which bottles each drinker shares.

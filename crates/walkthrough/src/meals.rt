@@ -19,7 +19,7 @@ fn show_eating<D: Diner>(rt: &impl Print, diner: &D) -> io::Result<()> {
     for p in (0..diner.drinkers()).filter(|p| eats(diner, *p)) {
         print!(rt; " {p}")?;
     }
-    println!(rt; "")
+    println!(rt)
 }
 
 fn first_eating<D: Diner>(diner: &D) -> Option<usize> {
@@ -49,11 +49,12 @@ pub(crate) fn serve_all<D: Diner>(
     let early = diner.done(4);
     show(rt, "done", 4, early)?;
     for _ in 0..diner.drinkers() {
-        if let Some(p) = first_eating(diner) {
-            let answer = pass_on(diner, p);
-            show(rt, "done", p, answer)?;
-            show_eating(rt, diner)?;
-        }
+        let Some(p) = first_eating(diner) else {
+            break;
+        };
+        let answer = pass_on(diner, p);
+        show(rt, "done", p, answer)?;
+        show_eating(rt, diner)?;
     }
     Ok(())
 }
