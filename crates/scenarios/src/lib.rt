@@ -1,4 +1,4 @@
-// Small graphs where the order of the meals is known, and messages over wires whose losses are known, worked out by hand from the rules. The crate holds tests and nothing else.
+// Small graphs where the order of the meals is known, and messages over wires whose losses are known, and how values are shown and numbered, worked out by hand from the rules. The crate holds tests and nothing else.
 #![tactic(auto)]
 
 #[cfg(test)]
@@ -13,3 +13,5 @@ mod patterns;
 mod rings;
 #[cfg(test)]
 mod stars;
+#[cfg(test)]
+mod texts;
