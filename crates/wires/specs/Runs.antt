@@ -1,10 +1,10 @@
 -- Runs of 1 in a pattern: where they stop, the longest of them, and how one gets shorter as a line reads on.
-use Rattle.std.specs.Prelude.{◌≡◌, ℕ, zero, suc, ◌+◌, ◌<◌, ◌≤◌, ◌⊎◌, max, Bool, true, false, cond, List, [], ◌∷◌, ◌++◌, length, map, ◌==◌, nat_lt, slice_index, slice_index_or, refl}
+use Rattle.std.specs.Prelude.{◌≡◌, ℕ, zero, suc, ◌+◌, ◌<◌, ◌≤◌, ◌⊎◌, max, Bool, true, false, cond, List, [], ◌∷◌, ◌++◌, length, drop, map, ◌==◌, nat_lt, slice_index, slice_index_or, refl}
 use Rattle.std.proofs.Common.{ap, sym, ◌∙◌, inl, inr, arith, eqb-true, ltb-false}
 use Rattle.std.proofs.lemmas.List.{at_drop_more, at_drop_all}
 use Rattle.std.proofs.lemmas.List.Folds.{prefix_len-append}
 use Rattle.std.proofs.lemmas.List.FromFn.{length-map-range_with_len, get_or-map-range_with_len}
-use Rattle.std.proofs.lemmas.List.Sums.{prefix_len_passes}
+use Rattle.std.proofs.lemmas.List.Sums.{prefix_len-le-length, prefix_len_passes}
 use Rattle.std.proofs.lemmas.Bool.{cases_lt}
 use Rattle.std.specs.List.{fold, range_with_len}
 use Rattle.std.proofs.Math.Logic.{∥∥₁_elim}
@@ -28,6 +28,13 @@ zero_stops_if_usable ds usable = ∥∥₁_elim usable (Prim.hlevel props) (zero
 -- What follows digits that are not all 1 is not read.
 leading_stops : (xs ys : List ℕ) → leading xs < length xs → leading (xs ++ ys) ≡ leading xs
 leading_stops xs ys stops = grind (arith, prefix_len-append (λ d. d == 49) xs ys)
+
+pub leading_at_most_all : (ds : List ℕ) → leading ds ≤ length ds
+leading_at_most_all ds = prefix_len-le-length (λ d. d == 49) ds
+
+-- A run that reaches the end goes on at the start.
+pub run_round_the_end : (ds : List ℕ) (p : ℕ) → cond (nat_lt (leading (drop p ds)) (length (drop p ds))) (leading (drop p ds)) (leading (drop p ds) + leading ds) ≡ run ds p
+run_round_the_end ds p = grind (arith, prefix_len-append (λ d. d == 49) (drop p ds) ds, prefix_len-le-length (λ d. d == 49) (drop p ds))
 
 -- The greatest of some numbers is at least as great as each, and it is one of them.
 no_less_than_the_first : (xs : List ℕ) (first : ℕ) → first ≤ fold max first xs

@@ -1,7 +1,7 @@
 // Patterns of losses: digits 0 and 1, read round and round.
-ghost use Rattle.std.specs.Prelude.{◌≡◌, ◌<◌, ◌↔◌, [], ◌∷◌, ◌==◌, length, All, IfOk, IsTrue, MatchResult, slice_index};
+ghost use Rattle.std.specs.Prelude.{◌≡◌, ◌<◌, ◌↔◌, [], ◌∷◌, ◌==◌, ◌+◌, nat_lt, if◌then◌else◌, length, All, IfOk, IsTrue, MatchResult, slice_index};
 ghost use Rattle.refusals.specs.Numbers.{number_of};
-ghost use Rattle.wires.specs.Patterns.{run, longest, following, Digit, Usable, Checked, LongestRun};
+ghost use Rattle.wires.specs.Patterns.{leading, run, longest, following, Digit, Usable, Checked, LongestRun};
 
 use arrayvec::ArrayVec;
 use refusals::Refusal;
@@ -46,24 +46,40 @@ impl Pattern {
     }
 }
 
-// How many 1 there are from this place on: to the end, and once more from the start.
-fn run_from(digits: &ArrayVec<u8, MOST_DIGITS>, place: usize) -> usize
+// How many 1 these digits begin with.
+fn leading_ones(digits: &[u8]) -> usize
+    ensures { result ≡ leading digits.now }
+{
+    digits.iter().take_while(|digit| **digit == b'1').count()
+}
+
+// A run that begins with so many 1 of a rest of so many digits: if it reaches the end, it goes on at the start.
+fn round_the_end(ones: usize, rest: usize, at_start: usize) -> usize
+    requires { ones + at_start < 1000 }
+    ensures { result ≡ (if nat_lt ones rest then ones else ones + at_start) }
+{
+    if ones < rest { ones } else { ones + at_start }
+}
+
+// The run of 1 from this place on: to the end, and once more from the start.
+// No chain of both parts: a chain goes to its place step by step, for each place anew.
+#[tactic(auto, using(crate::specs::Runs::leading_at_most_all, crate::specs::Runs::run_round_the_end))]
+fn run_from(digits: &ArrayVec<u8, MOST_DIGITS>, place: usize, at_start: usize) -> usize
+    requires within { place < length digits.now.items }
+    requires begun { at_start ≡ leading digits.now.items }
     ensures { result ≡ run digits.now.items place }
 {
-    digits
-        .iter()
-        .skip(place)
-        .chain(digits.iter())
-        .take_while(|digit| **digit == b'1')
-        .count()
+    let (_, rest) = digits.split_at(place);
+    round_the_end(leading_ones(rest), rest.len(), at_start)
 }
 
 // The longest run of 1, read round and round.
 fn longest_run(digits: &ArrayVec<u8, MOST_DIGITS>) -> usize
     ensures { result ≡ longest digits.now.items }
 {
+    let at_start = leading_ones(digits.as_slice());
     (0..digits.len())
-        .map(|place| run_from(digits, place))
+        .map(|place| run_from(digits, place, at_start))
         .fold(0, usize::max)
 }
 
@@ -83,6 +99,10 @@ impl TryFrom<&[u8]> for Pattern {
 
     // The pattern of these digits, if it can be used.
     fn try_from(bytes: &[u8]) -> Result<Pattern, Refusal> {
+        // The length first: too many bytes are refused unread.
+        if bytes.len() > MOST_DIGITS {
+            return Err(Refusal::UnusablePattern);
+        }
         if !has_only_digits(bytes) || !bytes.contains(&b'0') {
             return Err(Refusal::UnusablePattern);
         }
