@@ -1,15 +1,15 @@
 -- What a tick does to all channels, by its visits one after the other.
-use Rattle.std.specs.Prelude.{◌≡◌, ℕ, ◌+◌, ◌-◌, ◌*◌, ◌<◌, ◌≤◌, ◌≢◌, List, [], length, Option, slice_set, refl}
+use Rattle.std.specs.Prelude.{◌≡◌, ℕ, ◌+◌, ◌-◌, ◌*◌, ◌<◌, ◌≤◌, ◌≢◌, List, [], length, None, Option, slice_set, refl}
 use Rattle.std.proofs.Common.{sym, ap, subst, ◌∙◌, inl, inr, arith, length-set}
-use Rattle.std.proofs.lemmas.List.{get_or-set_same, get_or-set_other}
+use Rattle.std.proofs.lemmas.List.{set-get_or, get_or-set_same, get_or-set_other}
 use Rattle.std.proofs.lemmas.List.Elements.{All-get_or}
 use Rattle.std.proofs.lemmas.Bool.{cases_eq, cases_lt}
 use Rattle.std.specs.List.{All}
 use Rattle.alternating_bit.specs.declared.channel.Channel.{Channel}
 use Rattle.alternating.specs.AlternatingPosts.{channel_at}
-use Rattle.alternating_bit.specs.Channels.{unused, waiting_in}
+use Rattle.alternating_bit.specs.Channels.{unused, waiting_in, frame_of}
 use Rattle.alternating.specs.Soundness.{Sound}
-use Rattle.alternating.specs.Visits.{Visited, VisitedBelow, none_yet, one_more}
+use Rattle.alternating.specs.Visits.{nothing_to_send, Visited, VisitedBelow, none_yet, one_more}
 use Rattle.alternating.specs.VisitsKeep.{due_over_wire, due_same, visit_keeps}
 use Rattle.wires.specs.declared.frame.Frame.{Frame}
 use Rattle.wires.specs.Wiring.{Wiring, WireLaws, lines}
@@ -20,6 +20,10 @@ changed_here cs c d all few = get_or-set_same cs c d unused (omega (arith, all))
 
 pub kept_elsewhere : (cs : List Channel) (c k : ℕ) (d : Channel) → k ≢ c → channel_at (slice_set cs c d) k ≡ channel_at cs k
 kept_elsewhere cs c k d other = get_or-set_other cs c k d unused other
+
+-- A channel that has nothing to send is visited where nothing is done.
+pub nothing_sent : {W : Type 0} {carries : W → ℕ → Frame → Option Frame → W → Type 0} (w : W) (cs : List Channel) (c : ℕ) → frame_of (channel_at cs c) ≡ None → Visited carries w cs c w cs
+nothing_sent w cs c none = (channel_at cs c, nothing_to_send none refl refl, sym (set-get_or cs c unused))
 
 module _ {W : Type 0} {means : W → Wiring} {carries : W → ℕ → Frame → Option Frame → W → Type 0} (laws : WireLaws means carries) (w : W) (cs : List Channel) (all : length cs ≡ 64) (sound : All Sound cs) where
   -- The channels below n have been visited: no list has changed, and their dues have fallen. The others are as they were.

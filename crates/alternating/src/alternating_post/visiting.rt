@@ -1,6 +1,6 @@
 // A visit of one channel: a message is sent, and acknowledged where it comes through.
-ghost use Rattle.std.specs.Prelude.{◌≡◌, ◌+◌, ◌*◌, ◌<◌};
-ghost use Rattle.alternating_bit.specs.Channels.{after_frame};
+ghost use Rattle.std.specs.Prelude.{◌≡◌, ◌+◌, ◌*◌, ◌<◌, Some};
+ghost use Rattle.alternating_bit.specs.Channels.{frame_of, after_frame};
 ghost use Rattle.alternating.specs.Visits.{Carried, Acknowledging, Visit, Visited};
 ghost use Rattle.alternating.specs.declared.alternating_post.TheConstants.{CHANNELS};
 
@@ -52,13 +52,11 @@ impl Lines {
         }
     }
 
-    // What a visit makes of the channel.
-    fn visit<W: Wire>(self, wire: &mut W, channel: Channel) -> Channel
+    // The channel's frame goes out, and may be acknowledged.
+    fn send<W: Wire>(self, wire: &mut W, channel: Channel, frame: Frame) -> Channel
+        requires { frame_of channel ≡ Some frame }
         ensures { Visit W.Wire.carries self.channel wire.old channel wire.new result }
     {
-        let Some(frame) = channel.frame() else {
-            return channel;
-        };
         if comes_through(wire, self.out(), frame) {
             self.acknowledge(wire, channel, frame)
         } else {
@@ -68,11 +66,15 @@ impl Lines {
 }
 
 impl<W: Wire> AlternatingPost<W> {
-    // One channel is visited, and no other.
+    // One channel is visited, and no other. Where nothing is to be sent, nothing is written.
+    #[tactic(auto, using(crate::specs::Ticks::nothing_sent))]
     pub(super) fn visit(&mut self, lines: Lines)
         ensures { Visited W.Wire.carries self.old.wire self.old.channels lines.channel self.new.wire self.new.channels }
     {
         let channel = self.channels[lines.channel];
-        self.channels[lines.channel] = lines.visit(&mut self.wire, channel);
+        let Some(frame) = channel.frame() else {
+            return;
+        };
+        self.channels[lines.channel] = lines.send(&mut self.wire, channel, frame);
     }
 }

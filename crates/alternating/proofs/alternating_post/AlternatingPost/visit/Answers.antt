@@ -12,5 +12,5 @@ invariant_of-self-clause-sound g c =
     let k = c.args.lines.channel in
     let few = c.args.lines.few in
     let sound = All-get_or Sound s.channels k unused (omega (arith, s.all)) s.sound in
-    let kept = visit_keeps g.met.W.Wire.laws k few s.wire (channel_at s.channels k) c.visit.new.wire c.visit.result sound c.visit.ensures in
-    All-set Sound s.channels k c.visit.result kept.sound s.sound
+    let kept = visit_keeps g.met.W.Wire.laws k few s.wire (channel_at s.channels k) c.send.new.wire c.send.result sound c.send.ensures in
+    All-set Sound s.channels k c.send.result kept.sound s.sound
