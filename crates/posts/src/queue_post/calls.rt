@@ -51,7 +51,8 @@ impl Post for QueuePost {
 
     fn take(&mut self, channel: usize) -> Result<Option<Message>, Refusal> {
         check_channel(channel)?;
-        Ok(self.queues[channel].pop_at(0))
+        // At most two wait, so the last that takes the place of the first is the next; `pop_at` would move memory by a call.
+        Ok(self.queues[channel].swap_pop(0))
     }
 
     // What is put can be taken at once: there is nothing to bring nearer.
