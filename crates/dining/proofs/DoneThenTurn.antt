@@ -34,15 +34,16 @@ module _ (d c e : Dining) (p : ℕ) (lawful : Lawful e) (eats : IsIn d Eating p)
       let between = turn_makes_none_hungry c e T q after in
       omega (arith, D.done_of_a_holder_lowers_ahead q before held, T.goes_on.ahead_never_rises q (between, after))
 
-  passes_on_by : PassesOn d p e
-  passes_on_by = record {
+  pub passes_on : PassesOn d p e
+  passes_on = record {
     thinks_again = turn_leaves_thinking c e T p (omega (arith, D.goes_on.same_drinkers, eats.0), D.phases.its_own);
     eaters_go_on = λ q other ate. turn_leaves_eating c e T q (unchanged q Eating other ate);
     who_waited_for_it_has_less_ahead = less;
     hungry_have_eating_holders = λ q h. let held = T.hungry_have_holders q h in (held.0, held.1, lawful.holders_eat q held.0 h held.1);
   }
 
-pub passes_on : {S : Type 0} {means : S → Dining} {hungers leaves : S → ℕ → S → Type 0} {turns : S → S → Type 0} → DinerLaws means hungers leaves turns
+-- The same from the laws of a diner.
+pub passes_on_by_laws : {S : Type 0} {means : S → Dining} {hungers leaves : S → ℕ → S → Type 0} {turns : S → S → Type 0} → DinerLaws means hungers leaves turns
     → (s : S) (p : ℕ) (between t : S) → IsIn (means s) Eating p → leaves s p between → turns between t → PassesOn (means s) p (means t)
-passes_on laws s p between t eats left turned =
-    passes_on_by _ _ _ p (laws.always_lawful t) eats (laws.done_is_lawful s p between eats left) (laws.turn_is_lawful between t turned)
+passes_on_by_laws laws s p between t eats left turned =
+    passes_on _ _ _ p (laws.always_lawful t) eats (laws.done_is_lawful s p between eats left) (laws.turn_is_lawful between t turned)

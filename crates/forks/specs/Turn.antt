@@ -184,6 +184,9 @@ module _ (f : Forks) (F : Orderly f) (hold : (q : ℕ) → q < f.drinkers → f.
       (h.0, h.2)
 
 module _ (f : Forks) (F : Orderly f) where
+  pub orderly_visited : (n : ℕ) → Orderly (with_phases f (visited f n))
+  orderly_visited n = (visits f F n).orderly
+
   pub turn_lawful : LawfulTurn (dining f) (dining (after_turn f))
   turn_lawful = let v = visits f F f.drinkers in record {
     phases = λ q _. v.feeds.each q;
