@@ -31,9 +31,10 @@ impl Pattern {
 
     // Is the digit at this place 1?
     pub(crate) fn loses_at(&self, place: usize) -> bool
+        requires { place < length self.now.digits.items }
         ensures { result ≡ (slice_index self.now.digits.items place == 49) }
     {
-        self.digits.get(place) == Some(&b'1')
+        self.digits[place] == b'1'
     }
 
     // The place after this one, round the end.
