@@ -1,21 +1,18 @@
--- The look-out for a drinker: its phase, by the first entry that is its own.
-use Rattle.std.proofs.Common.{◌≡◌, ℕ, true, false, cond, ap, ◌==◌, eqb, List, [], ◌∷◌, refl, ⊎_elim, None, Some}
-use Rattle.std.proofs.lemmas.Bool.{cases_Bool}
-use Rattle.std.specs.List.{find}
-use Rattle.dining.specs.declared.phase.Phase.TheVariants.{Thinking, Hungry, Eating}
+-- The look-out for a drinker's phase, one place on.
+use Rattle.std.proofs.Common.{◌≡◌, ℕ, ◌+◌, ◌<◌, true, false, cond, ap, eqb, ◌∙◌, List, length, drop}
+use Rattle.std.proofs.lemmas.List.{drop_more}
+use Rattle.std.proofs.lemmas.Bool.{cond-true, cond-false}
+use Rattle.dining.specs.declared.phase.Phase.TheVariants.{Hungry, Eating}
 use Rattle.queueing.specs.declared.entry.Entry.{Entry}
 use Rattle.queueing.specs.Queue.{phase_in}
+use Rattle.queueing.proofs.Feeding.{at, no_entry}
 
-pub phase_found : (es : List Entry) (p : ℕ) (e : Entry) → find (λ x. x.drinker == p) es ≡ Some e → phase_in es p ≡ cond e.eating Eating Hungry
-phase_found [] p e h = cc
-phase_found (x ∷ es) p e h = ⊎_elim
-    (λ (t : eqb x.drinker p ≡ true). let found : Some x ≡ Some e = rw t at h in let same : x ≡ e = cc in rw t (ap (λ (y : Entry). cond y.eating Eating Hungry) same))
-    (λ (t : eqb x.drinker p ≡ false). rw t (phase_found es p e (rw t at h)))
-    (cases_Bool (eqb x.drinker p))
+module _ (es : List Entry) (i p : ℕ) (l : i < length es) where
+  phase_next : phase_in (drop i es) p ≡ cond (eqb (at es i).drinker p) (cond (at es i).eating Eating Hungry) (phase_in (drop (i + 1) es) p)
+  phase_next = ap (λ xs. phase_in xs p) (drop_more es i no_entry l)
 
-pub phase_missed : (es : List Entry) (p : ℕ) → find (λ x. x.drinker == p) es ≡ None → phase_in es p ≡ Thinking
-phase_missed [] p h = refl
-phase_missed (x ∷ es) p h = ⊎_elim
-    (λ (t : eqb x.drinker p ≡ true). cc (rw t at h))
-    (λ (t : eqb x.drinker p ≡ false). rw t (phase_missed es p (rw t at h)))
-    (cases_Bool (eqb x.drinker p))
+  pub phase_found : eqb (at es i).drinker p ≡ true → phase_in (drop i es) p ≡ cond (at es i).eating Eating Hungry
+  phase_found t = phase_next ∙ cond-true (eqb (at es i).drinker p) _ _ t
+
+  pub phase_passed : eqb (at es i).drinker p ≡ false → phase_in (drop i es) p ≡ phase_in (drop (i + 1) es) p
+  phase_passed t = phase_next ∙ cond-false (eqb (at es i).drinker p) _ _ t

@@ -8,13 +8,17 @@ use dining::Phase;
 use graph::Neighbourhood;
 
 // The phase of p: its entry says it, and without one it thinks.
+// A loop over places and no `find`: an iterator over a slice counts twice at each step, and every call asks this.
 pub(super) fn phase_of(entries: &[Entry], p: usize) -> Phase
     ensures { result ≡ phase_in entries.now p }
 {
-    match entries.iter().find(|entry| entry.drinker == p) {
-        None => Phase::Thinking,
-        Some(entry) => entry.phase(),
+    for place in 0..entries.len() {
+        let entry = entries[place];
+        if entry.drinker == p {
+            return entry.phase();
+        }
     }
+    Phase::Thinking
 }
 
 // Is one of these entries a neighbour of p?

@@ -1,19 +1,18 @@
-use Rattle.std.proofs.Common.{◌≡◌, rules, ap, sym, ◌∙◌, ◌==◌}
-use Rattle.std.specs.List.{find}
-use Rattle.std.specs.Option.{option_map}
-use Rattle.std.proofs.lemmas.Iterator.{YieldsList-from_slice}
-use Rattle.std.proofs.lemmas.Iterator.Search.{find_from_yields_List}
-use Rattle.queueing.proofs.Looking.{phase_found, phase_missed}
+use Rattle.std.proofs.Common.{sym, ap, ◌∙◌, arith}
+use Rattle.std.proofs.lemmas.List.{drop_all}
+use Rattle.std.proofs.lemmas.Bool.{eq-eqb, ne_eqb}
+use Rattle.queueing.specs.Queue.{phase_in}
+use Rattle.queueing.proofs.Looking.{phase_found, phase_passed}
 use Rattle.queueing.proofs.queue_diner.looking.phase_of.Goals as goal
 
-pub returns-in-None : goal.returns-in-None
-returns-in-None c =
-    let told : option_map (λ e. e.now) c.find.result ≡ find (λ e. e.drinker == c.args.p) c.args.entries.now =
-    find_from_yields_List (λ e. e.drinker == c.args.p) _ _ c.find.result c.find.ensures.ran (YieldsList-from_slice c.args.entries.now (cc)) (λ x b q k. search rules) in
-    sym (phase_missed c.args.entries.now c.args.p (sym told ∙ ap (option_map (λ e. e.now)) c.in-None.is))
+pub returns-then-entry-p : goal.returns-then-entry-p
+returns-then-entry-p c =
+    let mine = eq-eqb _ c.args.p c.if-entry-p.true in
+    c.phase.ensures ∙ sym (sym c.loop-place.invariant ∙ phase_found c.args.entries.now c.loop-place.place c.args.p (omega arith) mine)
 
-pub returns-in-Some : goal.returns-in-Some
-returns-in-Some c =
-    let told : option_map (λ e. e.now) c.find.result ≡ find (λ e. e.drinker == c.args.p) c.args.entries.now =
-    find_from_yields_List (λ e. e.drinker == c.args.p) _ _ c.find.result c.find.ensures.ran (YieldsList-from_slice c.args.entries.now (cc)) (λ x b q k. search rules) in
-    c.phase.ensures ∙ sym (phase_found c.args.entries.now c.args.p c.in-Some.entry.now (sym told ∙ ap (option_map (λ e. e.now)) c.in-Some.is))
+pub loop-place-preserved : goal.loop-place-preserved
+loop-place-preserved c =
+    sym (phase_passed c.args.entries.now c.loop-place.place c.args.p (omega arith) (ne_eqb _ c.args.p c.if-entry-p.false)) ∙ c.loop-place.invariant
+
+pub returns : goal.returns
+returns c = sym (ap (λ xs. phase_in xs c.args.p) (drop_all c.loop-place.place c.args.entries.now (omega arith))) ∙ c.loop-place.invariant
